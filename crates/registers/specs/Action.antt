@@ -1,0 +1,39 @@
+-- What a frame asks of the module's parts, decided once. Document 01, "Frames" and "Registers".
+-- Assumes nothing.
+use Prim.Native.Nat.{ℕ, _%_}
+use mathlib.Core.Bool.{Bool, true, false, cond}
+use Rattle.words.specs.Words.{bit}
+use Rattle.mdio.specs.Frame.{requestOf}
+use Rattle.mdio.specs.declared.Request.{Request}
+use Rattle.mdio.specs.declared.Request.the-variants as request
+use Rattle.registers.specs.Map.{registerAt}
+use Rattle.registers.specs.declared.Register.{Register}
+use Rattle.registers.specs.declared.Register.the-variants as register
+use Rattle.registers.specs.declared.action.Action.{Action}
+use Rattle.registers.specs.declared.action.Action.the-variants.{Refused, Silent, SetAddress, Dropped, Reset, Command, Customer, Control, Read}
+
+-- a write to a register, while a job is under way (busy) or not; what is not named is dropped
+abbrev pub writeTo : Register → Bool → ℕ → Action
+writeTo register.PmaControl busy value = cond (bit 15 value) Reset Dropped
+writeTo register.NvrControl busy value = cond busy Dropped (Command value)
+writeTo (register.Copy offset) busy value = Dropped
+writeTo (register.Customer offset) busy value = cond busy Dropped (Customer offset (value % 256))
+writeTo (register.Control i) busy value = Control i value
+writeTo (register.Status i) busy value = Dropped
+writeTo (register.Threshold k) busy value = Dropped
+writeTo (register.Sample quantity low) busy value = Dropped
+writeTo (register.Flags i) busy value = Dropped
+writeTo register.Unlisted busy value = Dropped
+
+-- a request, at the address register
+abbrev pub requestAction : Request → ℕ → Bool → Action
+requestAction request.Silent address busy = Silent
+requestAction (request.SetAddress a) address busy = SetAddress a
+requestAction (request.Write value) address busy = writeTo (registerAt address) busy value
+requestAction request.Read address busy = Read (registerAt address) false
+requestAction request.ReadIncrement address busy = Read (registerAt address) true
+
+-- what a frame asks of a module with this power, port and address register; refusal 7 when it is off
+unfoldable pub actionOf : Bool → ℕ → ℕ → Bool → ℕ → Action
+actionOf powered port address busy word =
+    cond powered (requestAction (requestOf word port) address busy) Refused
