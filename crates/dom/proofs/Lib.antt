@@ -1,0 +1,2 @@
+pub mod Tenths
+pub mod Signed

@@ -1,0 +1,12 @@
+use borrow.Author.Needs.{needs}
+use Rattle.dom.proofs.flags.rx_flags.Statement.{statement}
+use Rattle.dom.proofs.flags.rx_flags.Tie as tie
+
+pub rx-flags-spec : {M : Type 1} → statement M
+rx-flags-spec =
+    tie.close
+    (tie.spec
+    (λ c κs. search needs)
+    (λ c κs. search needs)
+    (λ c κs. search needs)
+    (λ c. cc))

@@ -1,0 +1,14 @@
+use borrow.Author.Needs.{needs}
+use Rattle.dom.proofs.thresholds.row_ordered.Statement.{statement}
+use Rattle.dom.proofs.thresholds.row_ordered.Tie as tie
+
+pub row-ordered-spec : {M : Type 1} → statement M
+row-ordered-spec =
+    tie.close
+    (tie.spec
+    (λ c κs. search needs)
+    (λ c κs. search needs)
+    (λ c κs. search needs)
+    (λ c κs. search needs)
+    (λ c κs. search needs)
+    (λ c. cc))

@@ -1,0 +1,4 @@
+pub mod Codes
+pub mod Thresholds
+pub mod Flags
+pub mod Readout

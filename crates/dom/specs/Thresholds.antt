@@ -1,0 +1,31 @@
+-- The 40 threshold bytes as codes, and their order.
+-- Assumes nothing.
+use Prim.Native.Nat.{ℕ, _+_}
+use mathlib.Core.Bool.{Bool, _&&_}
+use mathlib.Core.List.{List, [], _∷_}
+use lib.IntN.{ℤ, pos}
+use lib.ListN.{getD}
+use lib.Signed.{leZ}
+use Rattle.dom.specs.Codes.{codeOf, signedCode}
+
+-- the code at an offset
+abbrev pub codeAt : List ℕ → ℕ → ℕ
+codeAt bytes at = codeOf (getD bytes at 0) (getD bytes (at + 1) 0)
+
+-- high alarm, low alarm, high warning, low warning, from an offset on
+abbrev pub rowAt : (ℕ → ℤ) → List ℕ → ℕ → List ℤ
+rowAt read bytes at =
+    read (codeAt bytes at) ∷ read (codeAt bytes (at + 2)) ∷ read (codeAt bytes (at + 4)) ∷ read (codeAt bytes (at + 6)) ∷ []
+
+-- temperature, bias, transmit power, receive power; bytes 8 to 15 are no quantity's
+abbrev pub thresholdsOf : List ℕ → List (List ℤ)
+thresholdsOf bytes = rowAt signedCode bytes 0 ∷ rowAt pos bytes 16 ∷ rowAt pos bytes 24 ∷ rowAt pos bytes 32 ∷ []
+
+-- low alarm ≤ low warning ≤ high warning ≤ high alarm
+abbrev pub rowOrdered : List ℤ → Bool
+rowOrdered row =
+    leZ (getD row 1 (pos 0)) (getD row 3 (pos 0)) && (leZ (getD row 3 (pos 0)) (getD row 2 (pos 0)) && leZ (getD row 2 (pos 0)) (getD row 0 (pos 0)))
+
+-- refusal 5 is for thresholds of which a row is not in order
+abbrev pub ordered : List (List ℤ) → Bool
+ordered t = rowOrdered (getD t 0 []) && (rowOrdered (getD t 1 []) && (rowOrdered (getD t 2 []) && rowOrdered (getD t 3 [])))

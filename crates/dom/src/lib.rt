@@ -1,0 +1,43 @@
+// Digital optical monitoring (DOM): codes, thresholds, the flags of a sample, and the temperature readout.
+ghost use mathlib.Core.Path.{_≡_};
+ghost use Rattle.dom.specs.Codes.{codeOf, signedCode, acceptable};
+
+pub mod flags;
+pub mod readout;
+pub mod thresholds;
+
+// Temperature in 1/256 degree, bias, transmit power, receive power.
+pub struct Sample {
+    pub temperature: i16,
+    pub bias: u16,
+    pub transmit: u16,
+    pub receive: u16,
+}
+
+// The code of two bytes, high byte first.
+pub fn code(high: u8, low: u8) -> u16
+    ensures { λ r. ⌜ r ≡ codeOf high low ⌝ }
+{
+    high as u16 * 256 + low as u16
+}
+
+// A code as a signed number.
+pub fn signed_code(code: u16) -> i16
+    ensures { λ r. ⌜ r ≡ signedCode code ⌝ }
+{
+    if code < 0x8000 {
+        code as i16
+    } else {
+        (code as i32 - 0x10000) as i16
+    }
+}
+
+// A temperature that a sample may have: D800 to 7D00, signed. Any other is refused with 6.
+pub fn acceptable(temperature: i16) -> bool
+    ensures { λ r. ⌜ r ≡ acceptable temperature ⌝ }
+{
+    if -10240 <= temperature {
+        return temperature <= 32000;
+    }
+    false
+}
