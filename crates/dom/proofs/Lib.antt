@@ -1,2 +1,3 @@
+pub mod FlagBits
 pub mod Tenths
 pub mod Signed

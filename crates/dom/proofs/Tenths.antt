@@ -7,7 +7,6 @@ use lib.IntN.{ℤ, pos, negsuc, negℤ, _*ℤ_}
 use lib.Signed.{quotZ}
 use mir.Syntax.{Width, w16, w32}
 use mir.Val.{SFits, hbits}
-use Rattle.dom.specs.Readout.{tenthsOf}
 
 -- -m fits where m is at most half the width's power
 negative-fits : (w : Width) (m : ℕ) → 0 < 2 ^ hbits w → m ≤ 2 ^ hbits w → SFits w (negℤ (pos m))
@@ -22,7 +21,7 @@ quotient-negative : (m : ℕ) → quotZ (negℤ (pos m)) (pos 256) ≡ negℤ (p
 quotient-negative zero = refl
 quotient-negative (suc m) = refl
 
-pub tenths-fit : (z : ℤ) → SFits w16 z → SFits w16 (tenthsOf z)
-tenths-fit (pos n) f = record { sfits = omega (arith, f .sfits) }
-tenths-fit (negsuc n) f =
+pub quotient-fits : (z : ℤ) → SFits w16 z → SFits w16 (quotZ (z *ℤ pos 10) (pos 256))
+quotient-fits (pos n) f = record { sfits = omega (arith, f .sfits) }
+quotient-fits (negsuc n) f =
     rw (quotient-negative (suc n * 10)) (negative-fits w16 (suc n * 10 / 256) (omega arith) (omega (arith, f .sfits)))

@@ -17,10 +17,12 @@ fn code_at(bytes: &[u8; 40], at: usize) -> u16
     code(bytes[at], bytes[at + 1])
 }
 
-// A code as a number, signed or not.
-fn number(code: u16, signed: bool) -> i32
-    ensures { λ r. ⌜ r ≡ cond signed signedCode pos code ⌝ }
+// The code at an offset as a number, signed or not.
+fn number_at(bytes: &[u8; 40], at: usize, signed: bool) -> i32
+    requires { ⌜ at ≤ 38 ⌝ }
+    ensures { λ r. ⌜ r ≡ cond signed signedCode pos (codeAt (now (bytes .entry)) at) ⌝ }
 {
+    let code = code_at(bytes, at);
     if signed {
         signed_code(code) as i32
     } else {
@@ -33,10 +35,10 @@ fn row_at(bytes: &[u8; 40], at: usize, signed: bool) -> [i32; 4]
     ensures { λ r. ⌜ r ≡ rowAt (cond signed signedCode pos) (now (bytes .entry)) at ⌝ }
 {
     [
-        number(code_at(bytes, at), signed),
-        number(code_at(bytes, at + 2), signed),
-        number(code_at(bytes, at + 4), signed),
-        number(code_at(bytes, at + 6), signed),
+        number_at(bytes, at, signed),
+        number_at(bytes, at + 2, signed),
+        number_at(bytes, at + 4, signed),
+        number_at(bytes, at + 6, signed),
     ]
 }
 

@@ -10,7 +10,7 @@ use mathlib.Core.Bool.{Bool, true, false, cond, _&&_, _||_, not}
 use mathlib.Core.List.{List, [], _∷_}
 use lib.Bits.{bitAnd, bitOr, and-step, or-step, and-shr, or-shr, and-le-r, shifted-half, shifted-even}
 use lib.Dec.{eqb}
-use lib.ListN.{getD}
+use lib.ListN.{length, getD}
 use lib.Pow.{pow-mono, shl-shr, shr-shr}
 use Rattle.words.specs.Words.{bit, ofBits, anyBit, share}
 
@@ -94,6 +94,14 @@ bit-ofBits (b ∷ bs) (suc i) = bit-suc i (ofBits (b ∷ bs)) ∙ ap (bit i) (ha
     half : (b : Bool) (n : ℕ) → (cond b 1 0 + 2 * n) / 2 ≡ n
     half true n = omega arith
     half false n = omega arith
+
+pub ofBits-below : (bs : List Bool) → ofBits bs < 2 ^ length bs
+ofBits-below [] = omega arith
+ofBits-below (b ∷ bs) = digit-first b (ofBits bs) (length bs) (ofBits-below bs)
+  where
+    digit-first : (b : Bool) (w n : ℕ) → w < 2 ^ n → cond b 1 0 + 2 * w < 2 ^ suc n
+    digit-first true w n h = omega arith
+    digit-first false w n h = omega arith
 
 -- words with the same bits are equal
 pub bits-equal : (n : ℕ) {a b : ℕ} → a < 2 ^ n → b < 2 ^ n → ((i : ℕ) → bit i a ≡ bit i b) → a ≡ b

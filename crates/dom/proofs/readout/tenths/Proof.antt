@@ -2,7 +2,7 @@
 -- Assumes nothing.
 use lib.Dec.{lit<}
 use mir.Facts.{toZ-ofZ}
-use Rattle.dom.proofs.Tenths.{product-fits, tenths-fit}
+use Rattle.dom.proofs.Tenths.{product-fits, quotient-fits}
 use Rattle.dom.proofs.Signed.{widens, widened}
 use Rattle.dom.proofs.readout.tenths.Statement.{statement}
 use Rattle.dom.proofs.readout.tenths.Tie as tie
@@ -16,12 +16,12 @@ tenths-spec =
     (λ c.
     let z = c .args .code in
     let f = c .fits .code in
-    rw (widened z f, toZ-ofZ (product-fits z f)) (lit< tt, widens (tenths-fit z f)))
+    rw (widened z f, toZ-ofZ (product-fits z f)) (lit< tt, widens (quotient-fits z f)))
     (λ c.
     let z = c .args .code in
     let f = c .fits .code in
-    rw (widened z f, toZ-ofZ (product-fits z f), toZ-ofZ (widens (tenths-fit z f))) (tenths-fit z f))
+    rw (widened z f, toZ-ofZ (product-fits z f), toZ-ofZ (widens (quotient-fits z f))) (quotient-fits z f))
     (λ c.
     let z = c .args .code in
     let f = c .fits .code in
-    rw (widened z f, toZ-ofZ (product-fits z f), toZ-ofZ (widens (tenths-fit z f)), toZ-ofZ (tenths-fit z f))))
+    rw (widened z f, toZ-ofZ (product-fits z f), toZ-ofZ (widens (quotient-fits z f)), toZ-ofZ (quotient-fits z f))))
