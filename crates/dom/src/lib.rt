@@ -6,6 +6,8 @@ pub mod flags;
 pub mod readout;
 pub mod thresholds;
 
+use words::both;
+
 // Temperature in 1/256 degree, bias, transmit power, receive power.
 pub struct Sample {
     pub temperature: i16,
@@ -36,8 +38,5 @@ pub fn signed_code(code: u16) -> i16
 pub fn acceptable(temperature: i16) -> bool
     ensures { λ r. ⌜ r ≡ acceptable temperature ⌝ }
 {
-    if -10240 <= temperature {
-        return temperature <= 32000;
-    }
-    false
+    both(-10240 <= temperature, temperature <= 32000)
 }

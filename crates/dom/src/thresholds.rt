@@ -1,6 +1,6 @@
 // The 40 threshold bytes as codes, and their order.
 ghost use mathlib.Core.Path.{_≡_};
-ghost use mathlib.Core.Bool.{cond, _&&_};
+ghost use mathlib.Core.Bool.{cond};
 ghost use Prim.Native.Nat.{_≤_};
 ghost use lib.IntN.{pos};
 ghost use lib.ListN.{getD};
@@ -9,6 +9,7 @@ ghost use Rattle.dom.specs.Codes.{signedCode};
 ghost use Rattle.dom.specs.Thresholds.{codeAt, rowAt, thresholdsOf, rowOrdered, ordered};
 use crate::code;
 use crate::signed_code;
+use words::both;
 
 fn code_at(bytes: &[u8; 40], at: usize) -> u16
     requires { ⌜ at ≤ 38 ⌝ }
@@ -52,12 +53,6 @@ pub fn thresholds_of(bytes: &[u8; 40]) -> [[i32; 4]; 4]
         row_at(bytes, 24, false),
         row_at(bytes, 32, false),
     ]
-}
-
-fn both(a: bool, b: bool) -> bool
-    ensures { λ r. ⌜ r ≡ (a && b) ⌝ }
-{
-    if a { b } else { false }
 }
 
 fn at_most(row: [i32; 4], i: usize, j: usize) -> bool

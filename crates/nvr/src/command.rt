@@ -35,19 +35,19 @@ fn burn_in(region: Region, offset: u8) -> Command
 fn command_by(code: u16, write: bool, offset: u8) -> Command
     ensures { λ r. ⌜ r ≡ commandBy code write offset ⌝ }
 {
-    if code == 3 {
-        if write {
-            return Command::BurnCustomer;
-        }
-        return Command::LoadAll;
+    match code {
+        3 => if write {
+            Command::BurnCustomer
+        } else {
+            Command::LoadAll
+        },
+        2 => if write {
+            burn_in(Region::of(offset), offset)
+        } else {
+            Command::LoadByte(offset)
+        },
+        _ => Command::Failed,
     }
-    if code == 2 {
-        if write {
-            return burn_in(Region::of(offset), offset);
-        }
-        return Command::LoadByte(offset);
-    }
-    Command::Failed
 }
 
 impl Command {

@@ -1,7 +1,7 @@
 -- What a frame asks of the module's parts, decided once. Document 01, "Frames" and "Registers".
 -- Assumes nothing.
 use Prim.Native.Nat.{ℕ, _%_}
-use mathlib.Core.Bool.{Bool, true, false, cond}
+use mathlib.Core.Bool.{Bool, true, false, cond, not}
 use Rattle.words.specs.Words.{bit}
 use Rattle.mdio.specs.Frame.{requestOf}
 use Rattle.mdio.specs.declared.Request.{Request}
@@ -12,12 +12,16 @@ use Rattle.registers.specs.declared.Register.the-variants as register
 use Rattle.registers.specs.declared.action.Action.{Action}
 use Rattle.registers.specs.declared.action.Action.the-variants.{Refused, Silent, SetAddress, Dropped, Reset, Command, Customer, Control, Read}
 
--- a write to a register, while a job is under way (busy) or not; what is not named is dropped
+-- a write that is taken, or dropped
+abbrev pub when : Bool → Action → Action
+when taken action = cond taken action Dropped
+
+-- a write to a register, a job under way (busy) or not; what is not named is dropped
 abbrev pub writeTo : Register → Bool → ℕ → Action
-writeTo register.PmaControl busy value = cond (bit 15 value) Reset Dropped
-writeTo register.NvrControl busy value = cond busy Dropped (Command value)
+writeTo register.PmaControl busy value = when (bit 15 value) Reset
+writeTo register.NvrControl busy value = when (not busy) (Command value)
 writeTo (register.Copy offset) busy value = Dropped
-writeTo (register.Customer offset) busy value = cond busy Dropped (Customer offset (value % 256))
+writeTo (register.Customer offset) busy value = when (not busy) (Customer offset (value % 256))
 writeTo (register.Control i) busy value = Control i value
 writeTo (register.Status i) busy value = Dropped
 writeTo (register.Threshold k) busy value = Dropped

@@ -1,6 +1,6 @@
 // What a frame asks of the module's parts, decided once.
 ghost use mathlib.Core.Path.{_≡_};
-ghost use Rattle.registers.specs.Action.{writeTo, requestAction, actionOf};
+ghost use Rattle.registers.specs.Action.{when, writeTo, requestAction, actionOf};
 use crate::Register;
 use mdio::Request;
 use words::bit;
@@ -24,26 +24,21 @@ pub enum Action {
     Read(Register, bool),
 }
 
+// A write that is taken, or dropped.
+fn when(taken: bool, action: Action) -> Action
+    ensures { λ r. ⌜ r ≡ when taken action ⌝ }
+{
+    if taken { action } else { Action::Dropped }
+}
+
 fn write_to(register: Register, busy: bool, value: u16) -> Action
     ensures { λ r. ⌜ r ≡ writeTo register busy value ⌝ }
 {
     match register {
-        Register::PmaControl => if bit(15, value) {
-            Action::Reset
-        } else {
-            Action::Dropped
-        },
-        Register::NvrControl => if busy {
-            Action::Dropped
-        } else {
-            Action::Command(value)
-        },
+        Register::PmaControl => when(bit(15, value), Action::Reset),
+        Register::NvrControl => when(!busy, Action::Command(value)),
         Register::Copy(_) => Action::Dropped,
-        Register::Customer(offset) => if busy {
-            Action::Dropped
-        } else {
-            Action::Customer(offset, (value % 256) as u8)
-        },
+        Register::Customer(offset) => when(!busy, Action::Customer(offset, (value % 256) as u8)),
         Register::Control(i) => Action::Control(i, value),
         Register::Status(_) => Action::Dropped,
         Register::Threshold(_) => Action::Dropped,

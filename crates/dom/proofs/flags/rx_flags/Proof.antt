@@ -9,4 +9,9 @@ rx-flags-spec =
     (λ c κs. search needs)
     (λ c κs. search needs)
     (λ c κs. search needs)
-    (λ c. cc))
+    (λ c.
+    rw (
+      c .of-bits .ensures,
+      c .before .above .ensures,
+      c .before .before .below .ensures,
+    )))

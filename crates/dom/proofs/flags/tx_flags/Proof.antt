@@ -13,4 +13,13 @@ tx-flags-spec =
     (λ c κs. search needs)
     (λ c κs. search needs)
     (λ c κs. search needs)
-    (λ c. cc))
+    (λ c.
+    rw (
+      c .of-bits .ensures,
+      c .before .above3 .ensures,
+      c .before .before .below3 .ensures,
+      c .before .before .before .above2 .ensures,
+      c .before .before .before .before .below2 .ensures,
+      c .before .before .before .before .before .above .ensures,
+      c .before .before .before .before .before .before .below .ensures,
+    )))

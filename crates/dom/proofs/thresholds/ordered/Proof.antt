@@ -17,4 +17,13 @@ ordered-spec =
     (λ c κs. search needs)
     (λ c κs. search needs)
     (λ c κs. search needs)
-    (λ c. cc))
+    (λ c.
+    rw (
+      c .both3 .ensures,
+      c .before .both2 .ensures,
+      c .before .before .both .ensures,
+      c .before .before .before .row-ordered4 .ensures,
+      c .before .before .before .before .before .row-ordered3 .ensures,
+      c .before .before .before .before .before .before .before .row-ordered2 .ensures,
+      c .before .before .before .before .before .before .before .before .before .row-ordered .ensures,
+    )))

@@ -11,4 +11,11 @@ row-ordered-spec =
     (λ c κs. search needs)
     (λ c κs. search needs)
     (λ c κs. search needs)
-    (λ c. cc))
+    (λ c.
+    rw (
+      c .both2 .ensures,
+      c .before .both .ensures,
+      c .before .before .at-most3 .ensures,
+      c .before .before .before .at-most2 .ensures,
+      c .before .before .before .before .at-most .ensures,
+    )))
