@@ -17,7 +17,7 @@ pub struct Sample {
 }
 
 // The code of two bytes, high byte first.
-pub fn code(high: u8, low: u8) -> u16
+pub(crate) fn code_of(high: u8, low: u8) -> u16
     ensures { λ r. ⌜ r ≡ codeOf high low ⌝ }
 {
     high as u16 * 256 + low as u16

@@ -7,23 +7,16 @@ ghost use lib.ListN.{getD};
 ghost use lib.Signed.{leZ};
 ghost use Rattle.dom.specs.Codes.{signedCode};
 ghost use Rattle.dom.specs.Thresholds.{codeAt, rowAt, thresholdsOf, rowOrdered, ordered};
-use crate::code;
+use crate::code_of;
 use crate::signed_code;
 use words::both;
-
-fn code_at(bytes: &[u8; 40], at: usize) -> u16
-    requires { ⌜ at ≤ 38 ⌝ }
-    ensures { λ r. ⌜ r ≡ codeAt (now (bytes .entry)) at ⌝ }
-{
-    code(bytes[at], bytes[at + 1])
-}
 
 // The code at an offset as a number, signed or not.
 fn number_at(bytes: &[u8; 40], at: usize, signed: bool) -> i32
     requires { ⌜ at ≤ 38 ⌝ }
     ensures { λ r. ⌜ r ≡ cond signed signedCode pos (codeAt (now (bytes .entry)) at) ⌝ }
 {
-    let code = code_at(bytes, at);
+    let code = code_of(bytes[at], bytes[at + 1]);
     if signed {
         signed_code(code) as i32
     } else {

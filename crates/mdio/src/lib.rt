@@ -2,13 +2,13 @@
 ghost use mathlib.Core.Path.{_≡_};
 ghost use Rattle.mdio.specs.Frame.{frameOf, reaches, turned, asked, requestOf};
 
-pub struct Frame {
-    pub start: u8,
-    pub operation: u8,
-    pub port: u8,
-    pub device: u8,
-    pub turnaround: u8,
-    pub payload: u16,
+struct Frame {
+    start: u8,
+    operation: u8,
+    port: u8,
+    device: u8,
+    turnaround: u8,
+    payload: u16,
 }
 
 pub enum Request {
@@ -22,7 +22,7 @@ pub enum Request {
 }
 
 impl Frame {
-    pub fn of(word: u32) -> Frame
+    fn of(word: u32) -> Frame
         ensures { λ r. ⌜ r ≡ frameOf word ⌝ }
     {
         Frame {

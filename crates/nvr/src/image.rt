@@ -12,7 +12,7 @@ pub enum Region {
 }
 
 impl Region {
-    pub fn of(offset: u8) -> Region
+    pub(crate) fn of(offset: u8) -> Region
         ensures { λ r. ⌜ r ≡ regionOf offset ⌝ }
     {
         match offset {

@@ -12,6 +12,9 @@ pub number-at-spec : {M : Type 1} → statement M
 number-at-spec =
     tie.close
     (tie.spec
+    (λ c. search needs)
+    (λ c. search needs)
+    (λ c. search needs)
     (λ c κs. search needs)
     (λ c κs. search needs)
     (λ c.
@@ -22,7 +25,7 @@ number-at-spec =
     rw (
       widened (c .signed-code .result) (record { sfits = c .signed-code .ok }),
       c .signed-code .ensures,
-      c .before .before .code-at .ensures,
+      c .before .before .code-of .ensures,
       c .before .if1 .taken,
     ))
-    (λ c. rw (wide (c .before .code-at .result) (c .before .code-at .ok), c .before .code-at .ensures, c .if1 .left)))
+    (λ c. rw (wide (c .before .code-of .result) (c .before .code-of .ok), c .before .code-of .ensures, c .if1 .left)))
