@@ -3,10 +3,10 @@ use crate::print::text;
 use crate::print::word;
 use dom::Sample;
 use dom::acceptable;
-use dom::flags::flags_of;
 use dom::signed_code;
 use dom::thresholds::ordered;
 use dom::thresholds::thresholds_of;
+use flags::flags_of;
 
 // Temperature 4600, FB00, 4400, FD00; bias 8000, 1000, 7FFF, 2000; transmit power F000, 0001, F000, 0001;
 // receive power 9000, 1000, 9000, 1000.

@@ -1,3 +1,2 @@
-pub mod FlagBits
 pub mod Tenths
 pub mod Signed

@@ -1,4 +1,3 @@
 pub mod Codes
 pub mod Thresholds
-pub mod Flags
 pub mod Readout

@@ -2,7 +2,6 @@
 ghost use mathlib.Core.Path.{_≡_};
 ghost use Rattle.dom.specs.Codes.{codeOf, signedCode, acceptable};
 
-pub mod flags;
 pub mod readout;
 pub mod thresholds;
 

@@ -2,8 +2,6 @@
 ghost use mathlib.Core.Path.{_≡_};
 ghost use Rattle.registers.specs.Map.{registerAt};
 
-pub mod action;
-
 pub enum Register {
     // 0000: PMA/PMD control, whose bit 15 resets.
     PmaControl,
