@@ -1,1 +1,2 @@
+-- What the contracts of `action` cite.
 pub mod Action

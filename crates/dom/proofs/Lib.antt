@@ -1,2 +1,3 @@
+-- Laws of `dom` that belong to no one function.
 pub mod Tenths
 pub mod Signed

@@ -3,9 +3,10 @@
 use Prim.Native.Nat.{ℕ, _+_, _*_}
 use mathlib.Core.Bool.{Bool, cond, _&&_}
 use lib.Dec.{ltb}
-use lib.IntN.{ℤ, pos, negsuc, subℕ}
+use lib.IntN.{ℤ, pos, subℕ}
 use lib.Signed.{leZ}
 
+-- the code of two bytes
 abbrev pub codeOf : ℕ → ℕ → ℕ
 codeOf high low = high * 256 + low
 
@@ -13,6 +14,19 @@ codeOf high low = high * 256 + low
 abbrev pub signedCode : ℕ → ℤ
 signedCode n = cond (ltb n 0x8000) (pos n) (subℕ n 0x10000)
 
--- refusal 6 is for a temperature below D800 (-10240) or above 7D00 (32000)
+-- refusal 6 is for a temperature below D800 or above 7D00, as signed
 abbrev pub acceptable : ℤ → Bool
-acceptable t = leZ (negsuc 10239) t && leZ t (pos 32000)
+acceptable t = leZ (signedCode 0xd800) t && leZ t (signedCode 0x7d00)
+
+-- the quantities, in the order of their thresholds and registers
+abbrev pub temperature : ℕ
+temperature = 0
+
+abbrev pub bias : ℕ
+bias = 1
+
+abbrev pub transmit : ℕ
+transmit = 2
+
+abbrev pub receive : ℕ
+receive = 3

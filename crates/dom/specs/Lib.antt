@@ -1,3 +1,4 @@
+-- What the contracts of `dom` cite.
 pub mod Codes
 pub mod Thresholds
 pub mod Readout

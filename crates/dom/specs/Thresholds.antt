@@ -12,7 +12,20 @@ use Rattle.dom.specs.Codes.{codeOf, signedCode}
 abbrev pub codeAt : List ℕ → ℕ → ℕ
 codeAt bytes at = codeOf (getD bytes at 0) (getD bytes (at + 1) 0)
 
--- high alarm, low alarm, high warning, low warning, from an offset on
+-- the columns of a quantity's row
+abbrev pub highAlarm : ℕ
+highAlarm = 0
+
+abbrev pub lowAlarm : ℕ
+lowAlarm = 1
+
+abbrev pub highWarning : ℕ
+highWarning = 2
+
+abbrev pub lowWarning : ℕ
+lowWarning = 3
+
+-- the row from an offset on
 abbrev pub rowAt : (ℕ → ℤ) → List ℕ → ℕ → List ℤ
 rowAt read bytes at =
     read (codeAt bytes at) ∷ read (codeAt bytes (at + 2)) ∷ read (codeAt bytes (at + 4)) ∷ read (codeAt bytes (at + 6)) ∷ []
@@ -21,10 +34,12 @@ rowAt read bytes at =
 abbrev pub thresholdsOf : List ℕ → List (List ℤ)
 thresholdsOf bytes = rowAt signedCode bytes 0 ∷ rowAt pos bytes 16 ∷ rowAt pos bytes 24 ∷ rowAt pos bytes 32 ∷ []
 
+abbrev pub atMost : List ℤ → ℕ → ℕ → Bool
+atMost row i j = leZ (getD row i (pos 0)) (getD row j (pos 0))
+
 -- low alarm ≤ low warning ≤ high warning ≤ high alarm
 abbrev pub rowOrdered : List ℤ → Bool
-rowOrdered row =
-    leZ (getD row 1 (pos 0)) (getD row 3 (pos 0)) && (leZ (getD row 3 (pos 0)) (getD row 2 (pos 0)) && leZ (getD row 2 (pos 0)) (getD row 0 (pos 0)))
+rowOrdered row = atMost row lowAlarm lowWarning && (atMost row lowWarning highWarning && atMost row highWarning highAlarm)
 
 -- refusal 5 is for thresholds of which a row is not in order
 abbrev pub ordered : List (List ℤ) → Bool

@@ -1,4 +1,4 @@
-// Digital optical monitoring (DOM): codes, thresholds, the flags of a sample, and the temperature readout.
+// Digital optical monitoring (DOM): codes, thresholds and their order, and the temperature readout.
 ghost use mathlib.Core.Path.{_≡_};
 ghost use Rattle.dom.specs.Codes.{codeOf, signedCode, acceptable};
 
@@ -6,6 +6,15 @@ pub mod readout;
 pub mod thresholds;
 
 use words::both;
+
+// The quantities, in the order of their thresholds and registers.
+pub const TEMPERATURE: usize = 0;
+
+pub const BIAS: usize = 1;
+
+pub const TRANSMIT: usize = 2;
+
+pub const RECEIVE: usize = 3;
 
 // Temperature in 1/256 degree, bias, transmit power, receive power.
 pub struct Sample {
@@ -33,9 +42,9 @@ pub fn signed_code(code: u16) -> i16
     }
 }
 
-// A temperature that a sample may have: D800 to 7D00, signed. Any other is refused with 6.
+// A temperature that a sample may have: D800 (-0x2800) to 7D00. Any other is refused with 6.
 pub fn acceptable(temperature: i16) -> bool
     ensures { λ r. ⌜ r ≡ acceptable temperature ⌝ }
 {
-    both(-10240 <= temperature, temperature <= 32000)
+    both(-0x2800 <= temperature, temperature <= 0x7d00)
 }

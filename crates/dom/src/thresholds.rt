@@ -3,13 +3,20 @@ ghost use mathlib.Core.Path.{_≡_};
 ghost use mathlib.Core.Bool.{cond};
 ghost use Prim.Native.Nat.{_≤_};
 ghost use lib.IntN.{pos};
-ghost use lib.ListN.{getD};
-ghost use lib.Signed.{leZ};
 ghost use Rattle.dom.specs.Codes.{signedCode};
-ghost use Rattle.dom.specs.Thresholds.{codeAt, rowAt, thresholdsOf, rowOrdered, ordered};
+ghost use Rattle.dom.specs.Thresholds.{codeAt, rowAt, thresholdsOf, atMost, rowOrdered, ordered};
 use crate::code_of;
 use crate::signed_code;
 use words::both;
+
+// The columns of a quantity's row.
+pub const HIGH_ALARM: usize = 0;
+
+pub const LOW_ALARM: usize = 1;
+
+pub const HIGH_WARNING: usize = 2;
+
+pub const LOW_WARNING: usize = 3;
 
 // The code at an offset as a number, signed or not.
 fn number_at(bytes: &[u8; 40], at: usize, signed: bool) -> i32
@@ -36,7 +43,7 @@ fn row_at(bytes: &[u8; 40], at: usize, signed: bool) -> [i32; 4]
     ]
 }
 
-// Temperature, bias, transmit power, receive power; of each high alarm, low alarm, high warning, low warning.
+// The four thresholds of each quantity; bytes 8 to 15 are no quantity's.
 pub fn thresholds_of(bytes: &[u8; 40]) -> [[i32; 4]; 4]
     ensures { λ r. ⌜ r ≡ thresholdsOf (now (bytes .entry)) ⌝ }
 {
@@ -50,7 +57,7 @@ pub fn thresholds_of(bytes: &[u8; 40]) -> [[i32; 4]; 4]
 
 fn at_most(row: [i32; 4], i: usize, j: usize) -> bool
     requires { ⌜ (i ≤ 3) × (j ≤ 3) ⌝ }
-    ensures { λ r. ⌜ r ≡ leZ (getD row i (pos 0)) (getD row j (pos 0)) ⌝ }
+    ensures { λ r. ⌜ r ≡ atMost row i j ⌝ }
 {
     row[i] <= row[j]
 }
@@ -60,8 +67,11 @@ fn row_ordered(row: [i32; 4]) -> bool
     ensures { λ r. ⌜ r ≡ rowOrdered row ⌝ }
 {
     both(
-        at_most(row, 1, 3),
-        both(at_most(row, 3, 2), at_most(row, 2, 0)),
+        at_most(row, LOW_ALARM, LOW_WARNING),
+        both(
+            at_most(row, LOW_WARNING, HIGH_WARNING),
+            at_most(row, HIGH_WARNING, HIGH_ALARM),
+        ),
     )
 }
 

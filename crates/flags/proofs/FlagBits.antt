@@ -8,7 +8,8 @@ use lib.IntN.{ℤ}
 use mathlib.Core.List.{List}
 use Rattle.words.specs.Words.{bit, ofBits}
 use Rattle.words.proofs.Laws.{bit-ofBits, ofBits-below}
-use Rattle.flags.specs.Flags.{Side, high, low, temperature, bias, transmit, receive, alarm, warning, codesOf, crossed, txBits, rxBits, flagsOf}
+use Rattle.dom.specs.Codes.{temperature, bias, transmit, receive}
+use Rattle.flags.specs.Flags.{Side, high, low, alarm, warning, codesOf, crossed, txBits, rxBits, flagsOf}
 use Rattle.dom.specs.declared.Sample.{Sample}
 
 -- temperature high 7, low 6; bias 3, 2; transmit power 1, 0

@@ -1,1 +1,2 @@
+-- Laws of `flags` that belong to no one function.
 pub mod FlagBits

@@ -7,28 +7,17 @@ use lib.IntN.{ℤ, pos}
 use lib.ListN.{getD}
 use lib.Signed.{ltZ}
 use Rattle.words.specs.Words.{ofBits}
+use Rattle.dom.specs.Codes.{temperature, bias, transmit, receive}
+use Rattle.dom.specs.Thresholds.{highAlarm, highWarning}
 use Rattle.dom.specs.declared.Sample.{Sample}
 use Rattle.flags.specs.declared.Flags.{Flags}
 
--- the rows of the thresholds
-abbrev pub temperature : ℕ
-temperature = 0
-
-abbrev pub bias : ℕ
-bias = 1
-
-abbrev pub transmit : ℕ
-transmit = 2
-
-abbrev pub receive : ℕ
-receive = 3
-
--- the columns of a row: of each level the high threshold, and the low one in the next column
+-- the levels, by the column of the high threshold; the low one is in the next
 abbrev pub alarm : ℕ
-alarm = 0
+alarm = highAlarm
 
 abbrev pub warning : ℕ
-warning = 2
+warning = highWarning
 
 pub data Side : Type 0 where
   high low : Side

@@ -1,1 +1,2 @@
+-- What the contracts of `flags` cite.
 pub mod Flags

@@ -3,10 +3,16 @@ ghost use mathlib.Core.Path.{_≡_};
 ghost use Prim.Native.Nat.{_≤_};
 ghost use Rattle.words.specs.Words.{ofBits};
 ghost use Rattle.flags.specs.Flags.{high, low, codesOf, crossed, txBits, rxBits, flagsOf};
+use dom::BIAS;
+use dom::RECEIVE;
 use dom::Sample;
+use dom::TEMPERATURE;
+use dom::TRANSMIT;
+use dom::thresholds::HIGH_ALARM;
+use dom::thresholds::HIGH_WARNING;
 use words::of_bits;
 
-// A070, A071, A074, A075.
+// The words of A070, A071, A074 and A075 (MSA: TX_FLAG and RX_FLAG).
 pub struct Flags {
     pub txalarm: u16,
     pub rxalarm: u16,
@@ -14,20 +20,12 @@ pub struct Flags {
     pub rxwarning: u16,
 }
 
-// The rows of the thresholds.
-const TEMPERATURE: usize = 0;
+// The levels, by the column of the high threshold; the low one is in the next.
+const ALARM: usize = HIGH_ALARM;
 
-const BIAS: usize = 1;
+const WARNING: usize = HIGH_WARNING;
 
-const TRANSMIT: usize = 2;
-
-const RECEIVE: usize = 3;
-
-// The columns of the high thresholds; each low one is in the next.
-const ALARM: usize = 0;
-
-const WARNING: usize = 2;
-
+// A high flag.
 fn above(t: [[i32; 4]; 4], codes: [i32; 4], level: usize, q: usize) -> bool
     requires { ⌜ (q ≤ 3) × (level ≤ 2) ⌝ }
     ensures { λ r. ⌜ r ≡ crossed t codes level high q ⌝ }
@@ -35,6 +33,7 @@ fn above(t: [[i32; 4]; 4], codes: [i32; 4], level: usize, q: usize) -> bool
     t[q][level] < codes[q]
 }
 
+// A low flag.
 fn below(t: [[i32; 4]; 4], codes: [i32; 4], level: usize, q: usize) -> bool
     requires { ⌜ (q ≤ 3) × (level ≤ 2) ⌝ }
     ensures { λ r. ⌜ r ≡ crossed t codes level low q ⌝ }

@@ -2,6 +2,7 @@
 ghost use mathlib.Core.Path.{_≡_};
 ghost use Rattle.mdio.specs.Frame.{frameOf, reaches, turned, asked, requestOf};
 
+// Bits 31:30, 29:28, 27:23, 22:18, 17:16 and 15:0.
 struct Frame {
     start: u8,
     operation: u8,
@@ -11,8 +12,9 @@ struct Frame {
     payload: u16,
 }
 
+// What a frame asks of a module.
 pub enum Request {
-    // Not for this module: no answer.
+    // Not for this module.
     Silent,
     SetAddress(u16),
     Write(u16),
@@ -49,6 +51,17 @@ impl Frame {
     }
 }
 
+// An address or write frame is silent unless its turnaround is 10.
+fn turned(turnaround: u8, request: Request) -> Request
+    ensures { λ r. ⌜ r ≡ turned turnaround request ⌝ }
+{
+    if turnaround == 2 {
+        request
+    } else {
+        Request::Silent
+    }
+}
+
 // What a frame that reaches the module asks.
 fn asked(operation: u8, turnaround: u8, payload: u16) -> Request
     ensures { λ r. ⌜ r ≡ asked operation turnaround payload ⌝ }
@@ -71,15 +84,5 @@ impl Request {
         } else {
             Request::Silent
         }
-    }
-}
-
-fn turned(turnaround: u8, request: Request) -> Request
-    ensures { λ r. ⌜ r ≡ turned turnaround request ⌝ }
-{
-    if turnaround == 2 {
-        request
-    } else {
-        Request::Silent
     }
 }

@@ -1,2 +1,3 @@
+-- Laws of `nvr` that belong to no one function.
 pub mod Registers
 pub mod Sum

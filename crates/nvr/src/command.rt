@@ -4,6 +4,7 @@ ghost use Rattle.nvr.specs.Command.{keptBits, burnIn, commandBy, command
 use crate::image::Region;
 use words::bit;
 
+// What a word written to 8000 starts.
 pub enum Command {
     LoadAll,
     LoadByte(u8),
@@ -21,6 +22,7 @@ pub fn kept_bits(word: u16) -> u16
     word & 0xff23
 }
 
+// A one-byte burn: only a customer byte is burned.
 fn burn_in(region: Region, offset: u8) -> Command
     ensures { λ r. ⌜ r ≡ burnIn region offset ⌝ }
 {
@@ -32,6 +34,7 @@ fn burn_in(region: Region, offset: u8) -> Command
     }
 }
 
+// The command of bits 1:0, by the write bit and the offset.
 fn command_by(code: u16, write: bool, offset: u8) -> Command
     ensures { λ r. ⌜ r ≡ commandBy code write offset ⌝ }
 {

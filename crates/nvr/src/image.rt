@@ -4,6 +4,7 @@ ghost use Prim.Native.Nat.{_+_, _%_};
 ghost use lib.ListN.{take};
 ghost use Rattle.nvr.specs.Image.{regionOf, sum, checksumRight};
 
+// The regions of an image, by offset.
 pub enum Region {
     Basic,
     Checksum,
@@ -12,7 +13,7 @@ pub enum Region {
 }
 
 impl Region {
-    pub(crate) fn of(offset: u8) -> Region
+    pub fn of(offset: u8) -> Region
         ensures { λ r. ⌜ r ≡ regionOf offset ⌝ }
     {
         match offset {

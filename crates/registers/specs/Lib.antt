@@ -1,1 +1,2 @@
+-- What the contract of `registers` cites.
 pub mod Map

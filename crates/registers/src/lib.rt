@@ -1,7 +1,8 @@
-// The register map of device 1: what stands at an address.
+// The register map of device 1.
 ghost use mathlib.Core.Path.{_≡_};
 ghost use Rattle.registers.specs.Map.{registerAt};
 
+// What stands at an address.
 pub enum Register {
     // 0000: PMA/PMD control, whose bit 15 resets.
     PmaControl,
@@ -17,7 +18,8 @@ pub enum Register {
     Status(u8),
     // A000 to A027: threshold byte 0 to 39.
     Threshold(u8),
-    // A060, A064, A066, A068: quantity 0 to 3 of the last sample, its high byte, or its low byte at the next address.
+    // A060 temperature, A064 bias, A066 transmit power, A068 receive power of the last sample: quantity 0 to 3, and
+    // whether it is the low byte, at the next address.
     Sample(u8, bool),
     // A070, A071 alarm flags, A074, A075 warning flags: 0 to 3.
     Flags(u8),

@@ -1,5 +1,7 @@
-use Rattle.action.specs.Action.{actionOf}
+-- `action::decide` meets its contract: off it refuses, on it asks its callees.
+-- Assumes nothing.
 use borrow.Author.Needs.{needs}
+use Rattle.action.specs.Action.{actionOf}
 use Rattle.action.proofs.decide.Statement.{statement}
 use Rattle.action.proofs.decide.Tie as tie
 

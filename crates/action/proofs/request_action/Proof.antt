@@ -1,3 +1,5 @@
+-- `action::request_action` meets its contract: one line for each request.
+-- Assumes nothing.
 use borrow.Author.Needs.{needs}
 use Rattle.action.proofs.request_action.Statement.{statement}
 use Rattle.action.proofs.request_action.Tie as tie

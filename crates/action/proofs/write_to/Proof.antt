@@ -1,3 +1,5 @@
+-- `action::write_to` meets its contract: one line for each register.
+-- Assumes nothing.
 use borrow.Author.Needs.{needs}
 use Rattle.action.proofs.write_to.Statement.{statement}
 use Rattle.action.proofs.write_to.Tie as tie

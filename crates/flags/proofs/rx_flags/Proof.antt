@@ -1,3 +1,5 @@
+-- `flags::rx_flags` meets its contract, by what its callees say of each flag.
+-- Assumes nothing.
 use borrow.Author.Needs.{needs}
 use Rattle.flags.proofs.rx_flags.Statement.{statement}
 use Rattle.flags.proofs.rx_flags.Tie as tie

@@ -1,3 +1,5 @@
+-- `flags::tx_flags` meets its contract, by what its callees say of each flag.
+-- Assumes nothing.
 use borrow.Author.Needs.{needs}
 use Rattle.flags.proofs.tx_flags.Statement.{statement}
 use Rattle.flags.proofs.tx_flags.Tie as tie

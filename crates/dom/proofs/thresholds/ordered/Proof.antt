@@ -1,3 +1,5 @@
+-- `dom::thresholds::ordered` meets its contract, by what its callees say of each row.
+-- Assumes nothing.
 use borrow.Author.Needs.{needs}
 use Rattle.dom.proofs.thresholds.ordered.Statement.{statement}
 use Rattle.dom.proofs.thresholds.ordered.Tie as tie

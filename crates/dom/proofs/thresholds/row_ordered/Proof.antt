@@ -1,3 +1,5 @@
+-- `dom::thresholds::row_ordered` meets its contract, by what its callees say of each pair.
+-- Assumes nothing.
 use borrow.Author.Needs.{needs}
 use Rattle.dom.proofs.thresholds.row_ordered.Statement.{statement}
 use Rattle.dom.proofs.thresholds.row_ordered.Tie as tie

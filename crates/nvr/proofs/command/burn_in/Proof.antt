@@ -1,3 +1,5 @@
+-- `nvr::command::burn_in` meets its contract: one line for each region.
+-- Assumes nothing.
 use borrow.Author.Needs.{needs}
 use Rattle.nvr.proofs.command.burn_in.Statement.{statement}
 use Rattle.nvr.proofs.command.burn_in.Tie as tie

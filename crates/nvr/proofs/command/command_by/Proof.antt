@@ -1,5 +1,7 @@
-use borrow.Author.Tests.{ne-eqb}
+-- `nvr::command::command_by` meets its contract: one line for each way.
+-- Assumes nothing.
 use borrow.Author.Needs.{needs}
+use borrow.Author.Tests.{ne-eqb}
 use Rattle.nvr.proofs.command.command_by.Statement.{statement}
 use Rattle.nvr.proofs.command.command_by.Tie as tie
 

@@ -1,5 +1,7 @@
-use Rattle.nvr.specs.Command.{commandOf}
+-- `nvr::command::Command::of` meets its contract, by what its callees say of the word's parts.
+-- Assumes nothing.
 use borrow.Author.Needs.{needs}
+use Rattle.nvr.specs.Command.{commandOf}
 use Rattle.nvr.proofs.command.Command.of.Statement.{statement}
 use Rattle.nvr.proofs.command.Command.of.Tie as tie
 
