@@ -39,8 +39,8 @@ atMost row i j = leZ (getD row i (pos 0)) (getD row j (pos 0))
 
 -- low alarm ≤ low warning ≤ high warning ≤ high alarm
 abbrev pub rowOrdered : List ℤ → Bool
-rowOrdered row = atMost row lowAlarm lowWarning && (atMost row lowWarning highWarning && atMost row highWarning highAlarm)
+rowOrdered row = atMost row lowAlarm lowWarning && atMost row lowWarning highWarning && atMost row highWarning highAlarm
 
 -- refusal 5 is for thresholds of which a row is not in order
 abbrev pub ordered : List (List ℤ) → Bool
-ordered t = rowOrdered (getD t 0 []) && (rowOrdered (getD t 1 []) && (rowOrdered (getD t 2 []) && rowOrdered (getD t 3 [])))
+ordered t = rowOrdered (getD t 0 []) && rowOrdered (getD t 1 []) && rowOrdered (getD t 2 []) && rowOrdered (getD t 3 [])

@@ -5,8 +5,6 @@ ghost use Rattle.dom.specs.Codes.{codeOf, signedCode, acceptable};
 pub mod readout;
 pub mod thresholds;
 
-use words::both;
-
 // The quantities, in the order of their thresholds and registers.
 pub const TEMPERATURE: usize = 0;
 
@@ -46,5 +44,5 @@ pub fn signed_code(code: u16) -> i16
 pub fn acceptable(temperature: i16) -> bool
     ensures { λ r. ⌜ r ≡ acceptable temperature ⌝ }
 {
-    both(-0x2800 <= temperature, temperature <= 0x7d00)
+    (-0x2800 <= temperature) & (temperature <= 0x7d00)
 }

@@ -4,10 +4,9 @@ ghost use mathlib.Core.Bool.{cond};
 ghost use Prim.Native.Nat.{_≤_};
 ghost use lib.IntN.{pos};
 ghost use Rattle.dom.specs.Codes.{signedCode};
-ghost use Rattle.dom.specs.Thresholds.{codeAt, rowAt, thresholdsOf, atMost, rowOrdered, ordered};
+ghost use Rattle.dom.specs.Thresholds.{codeAt, rowAt, thresholdsOf, rowOrdered, ordered};
 use crate::code_of;
 use crate::signed_code;
-use words::both;
 
 // The columns of a quantity's row.
 pub const HIGH_ALARM: usize = 0;
@@ -55,35 +54,18 @@ pub fn thresholds_of(bytes: &[u8; 40]) -> [[i32; 4]; 4]
     ]
 }
 
-fn at_most(row: [i32; 4], i: usize, j: usize) -> bool
-    requires { ⌜ (i ≤ 3) × (j ≤ 3) ⌝ }
-    ensures { λ r. ⌜ r ≡ atMost row i j ⌝ }
-{
-    row[i] <= row[j]
-}
-
 // Low alarm ≤ low warning ≤ high warning ≤ high alarm.
 fn row_ordered(row: [i32; 4]) -> bool
     ensures { λ r. ⌜ r ≡ rowOrdered row ⌝ }
 {
-    both(
-        at_most(row, LOW_ALARM, LOW_WARNING),
-        both(
-            at_most(row, LOW_WARNING, HIGH_WARNING),
-            at_most(row, HIGH_WARNING, HIGH_ALARM),
-        ),
-    )
+    (row[LOW_ALARM] <= row[LOW_WARNING])
+        & (row[LOW_WARNING] <= row[HIGH_WARNING])
+        & (row[HIGH_WARNING] <= row[HIGH_ALARM])
 }
 
 // Every quantity's thresholds are in order. Any others are refused with 5.
 pub fn ordered(t: [[i32; 4]; 4]) -> bool
     ensures { λ r. ⌜ r ≡ ordered t ⌝ }
 {
-    both(
-        row_ordered(t[0]),
-        both(
-            row_ordered(t[1]),
-            both(row_ordered(t[2]), row_ordered(t[3])),
-        ),
-    )
+    row_ordered(t[0]) & row_ordered(t[1]) & row_ordered(t[2]) & row_ordered(t[3])
 }

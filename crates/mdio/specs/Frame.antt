@@ -20,7 +20,7 @@ frameOf w =
     }
 
 -- the frame is for the module at this port: start 00, its port, device 1
-unfoldable pub reaches : ℕ → Frame → Bool
+abbrev pub reaches : ℕ → Frame → Bool
 reaches port f = eqb (f .start) 0 && eqb (f .port) port && eqb (f .device) 1
 
 -- an address or write frame whose turnaround is not 10 is silent

@@ -41,13 +41,7 @@ impl Frame {
     fn reaches(self, port: u8) -> bool
         ensures { λ r. ⌜ r ≡ reaches port self ⌝ }
     {
-        if self.start != 0 {
-            return false;
-        }
-        if self.port != port {
-            return false;
-        }
-        self.device == 1
+        (self.start == 0) & (self.port == port) & (self.device == 1)
     }
 }
 

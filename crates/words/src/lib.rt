@@ -1,6 +1,6 @@
 // The bits of a 16-bit word.
 ghost use mathlib.Core.Path.{_≡_};
-ghost use mathlib.Core.Bool.{cond, _&&_};
+ghost use mathlib.Core.Bool.{cond};
 ghost use mathlib.Core.List.{[], _∷_};
 ghost use Prim.Native.Nat.{_≤_};
 ghost use Rattle.words.specs.Words.{bit, ofBits, share};
@@ -20,13 +20,6 @@ pub fn share(a: u16, b: u16) -> bool
     ensures { λ r. ⌜ r ≡ share a b ⌝ }
 {
     a & b != 0
-}
-
-// Whether two bits are both set.
-pub fn both(a: bool, b: bool) -> bool
-    ensures { λ r. ⌜ r ≡ (a && b) ⌝ }
-{
-    if a { b } else { false }
 }
 
 // The word of eight bits, the lowest first.

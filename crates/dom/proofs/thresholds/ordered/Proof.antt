@@ -1,4 +1,4 @@
--- `dom::thresholds::ordered` meets its contract, by what its callees say of each row.
+-- `dom::thresholds::ordered` meets its contract, by what `row_ordered` says of each row.
 -- Assumes nothing.
 use borrow.Author.Needs.{needs}
 use Rattle.dom.proofs.thresholds.ordered.Statement.{statement}
@@ -16,16 +16,10 @@ ordered-spec =
     (λ c κs. search needs)
     (λ c. search needs)
     (λ c κs. search needs)
-    (λ c κs. search needs)
-    (λ c κs. search needs)
-    (λ c κs. search needs)
     (λ c.
     rw (
-      c .both3 .ensures,
-      c .before .both2 .ensures,
-      c .before .before .both .ensures,
-      c .before .before .before .row-ordered4 .ensures,
-      c .before .before .before .before .before .row-ordered3 .ensures,
-      c .before .before .before .before .before .before .before .row-ordered2 .ensures,
-      c .before .before .before .before .before .before .before .before .before .row-ordered .ensures,
+      c .row-ordered4 .ensures,
+      c .before .before .row-ordered3 .ensures,
+      c .before .before .before .before .row-ordered2 .ensures,
+      c .before .before .before .before .before .before .row-ordered .ensures,
     )))
