@@ -14,7 +14,39 @@ use lib.ListN.{length, getD}
 use lib.Pow.{pow-mono, shl-shr, shr-shr}
 use Rattle.words.specs.Words.{bit, ofBits, anyBit, share}
 
--- ---- the lowest bit, and the bits above it
+-- ---- shifts
+pub bit-shr : (i k w : ℕ) → bit i (w / 2 ^ k) ≡ bit (k + i) w
+unfolding bit
+bit-shr i k w = rw (shr-shr w k i)
+
+pub bit-shl : (i k w : ℕ) → bit (k + i) (w * 2 ^ k) ≡ bit i w
+bit-shl i k w = sym (bit-shr i k (w * 2 ^ k)) ∙ ap (bit i) (shl-shr w k)
+
+-- ---- the lowest bit, and the rest
+pub bit-lowest : (w : ℕ) → bit 0 w ≡ eqb (w % 2) 1
+unfolding bit
+bit-lowest w = rw (div-one w)
+
+pub bit-suc : (i w : ℕ) → bit (suc i) w ≡ bit i (w / 2)
+bit-suc i w = rw (← one-add i) (sym (bit-shr i 1 w))
+
+-- ---- bits that are not set
+-- below a shift to the left
+pub bit-shl-low : (i k w : ℕ) → i < k → bit i (w * 2 ^ k) ≡ false
+bit-shl-low i zero w h = absurd (omega arith)
+bit-shl-low zero (suc k) w h = bit-lowest (w * 2 ^ suc k) ∙ rw (shifted-even w k)
+bit-shl-low (suc i) (suc k) w h = bit-suc i (w * 2 ^ suc k) ∙ rw (shifted-half w k) (bit-shl-low i k w (omega arith))
+
+-- from n on, of a word below 2 ^ n
+pub bit-above : (n i w : ℕ) → w < 2 ^ n → n ≤ i → bit i w ≡ false
+unfolding bit
+bit-above n i w h k = let z : w / 2 ^ i ≡ 0 = div-eq-of-lt (le-trans h (pow-mono k)) in rw z
+
+pub bit-zero : (i : ℕ) → bit i 0 ≡ false
+bit-zero i = bit-above 0 i 0 (omega arith) (omega arith)
+
+-- ---- `|` and `&`
+-- a digit is 0 or 1
 data Digit : ℕ → Type 0 where
   d0 : Digit 0
   d1 : Digit 1
@@ -27,35 +59,6 @@ digit x = go (x % 2) (omega arith)
     go (suc zero) h = d1
     go (suc (suc n)) h = absurd (omega arith)
 
--- ---- shifts
-pub bit-shr : (i k w : ℕ) → bit i (w / 2 ^ k) ≡ bit (k + i) w
-unfolding bit
-bit-shr i k w = rw (shr-shr w k i)
-
-pub bit-shl : (i k w : ℕ) → bit (k + i) (w * 2 ^ k) ≡ bit i w
-bit-shl i k w = sym (bit-shr i k (w * 2 ^ k)) ∙ ap (bit i) (shl-shr w k)
-
-pub bit-lowest : (w : ℕ) → bit 0 w ≡ eqb (w % 2) 1
-unfolding bit
-bit-lowest w = rw (div-one w)
-
-pub bit-suc : (i w : ℕ) → bit (suc i) w ≡ bit i (w / 2)
-bit-suc i w = rw (← one-add i) (sym (bit-shr i 1 w))
-
-pub bit-shl-low : (i k w : ℕ) → i < k → bit i (w * 2 ^ k) ≡ false
-bit-shl-low i zero w h = absurd (omega arith)
-bit-shl-low zero (suc k) w h = bit-lowest (w * 2 ^ suc k) ∙ rw (shifted-even w k)
-bit-shl-low (suc i) (suc k) w h = bit-suc i (w * 2 ^ suc k) ∙ rw (shifted-half w k) (bit-shl-low i k w (omega arith))
-
--- a word below 2 ^ n has no bit from n on
-pub bit-above : (n i w : ℕ) → w < 2 ^ n → n ≤ i → bit i w ≡ false
-unfolding bit
-bit-above n i w h k = let z : w / 2 ^ i ≡ 0 = div-eq-of-lt (le-trans h (pow-mono k)) in rw z
-
-pub bit-zero : (i : ℕ) → bit i 0 ≡ false
-bit-zero i = bit-above 0 i 0 (omega arith) (omega arith)
-
--- ---- `|` and `&`
 min-digit : {a b : ℕ} → Digit a → Digit b → eqb (min a b) 1 ≡ (eqb a 1 && eqb b 1)
 min-digit d0 d0 = refl
 min-digit d0 d1 = refl
