@@ -1,6 +1,6 @@
 -- The alarm and warning flags of a sample: four quantities meet four thresholds each. Document 01, "Alarms".
 -- Assumes nothing.
-use Prim.Native.Nat.{ℕ, _+_}
+use Prim.Native.Nat.{ℕ}
 use mathlib.Core.Bool.{Bool, false}
 use mathlib.Core.List.{List, [], _∷_}
 use lib.IntN.{ℤ, pos}
@@ -8,28 +8,42 @@ use lib.ListN.{getD}
 use lib.Signed.{ltZ}
 use Rattle.words.specs.Words.{ofBits}
 use Rattle.dom.specs.Codes.{temperature, bias, transmit, receive}
-use Rattle.dom.specs.Thresholds.{highAlarm, highWarning}
+use Rattle.dom.specs.Thresholds.{highAlarm, lowAlarm, highWarning, lowWarning}
 use Rattle.dom.specs.declared.Sample.{Sample}
 use Rattle.flags.specs.declared.Flags.{Flags}
-
--- the levels, by the column of the high threshold; the low one is in the next
-abbrev pub alarm : ℕ
-alarm = highAlarm
-
-abbrev pub warning : ℕ
-warning = highWarning
 
 pub data Side : Type 0 where
   high low : Side
 
--- a sample's codes, in the order of the rows
+-- the columns of a level's high and low thresholds
+abbrev pub columns : ℕ → ℕ → Side → ℕ
+columns h l high = h
+columns h l low = l
+
+abbrev pub alarm : Side → ℕ
+alarm = columns highAlarm lowAlarm
+
+abbrev pub warning : Side → ℕ
+warning = columns highWarning lowWarning
+
+-- a sample's codes, in the order of the quantities
 abbrev pub codesOf : Sample → List ℤ
 codesOf s = s .temperature ∷ pos (s .bias) ∷ pos (s .transmit) ∷ pos (s .receive) ∷ []
 
--- high above its threshold, low below, equality neither
-abbrev pub crossed : List (List ℤ) → List ℤ → ℕ → Side → ℕ → Bool
-crossed thresholds codes level high q = ltZ (getD (getD thresholds q []) level (pos 0)) (getD codes q (pos 0))
-crossed thresholds codes level low q = ltZ (getD codes q (pos 0)) (getD (getD thresholds q []) (level + 1) (pos 0))
+abbrev pub threshold : List (List ℤ) → ℕ → ℕ → ℤ
+threshold thresholds q column = getD (getD thresholds q []) column (pos 0)
+
+-- a quantity's reading is strictly above a threshold, or strictly below
+abbrev pub above : List (List ℤ) → List ℤ → ℕ → ℕ → Bool
+above thresholds codes q column = ltZ (threshold thresholds q column) (getD codes q (pos 0))
+
+abbrev pub below : List (List ℤ) → List ℤ → ℕ → ℕ → Bool
+below thresholds codes q column = ltZ (getD codes q (pos 0)) (threshold thresholds q column)
+
+-- a quantity's flag at a level: high above its threshold, low below, equality neither
+abbrev pub crossed : List (List ℤ) → List ℤ → (Side → ℕ) → Side → ℕ → Bool
+crossed thresholds codes level high q = above thresholds codes q (level high)
+crossed thresholds codes level low q = below thresholds codes q (level low)
 
 -- A070 and A074, from bit 0 up: transmit power 0 low, 1 high; bias 2, 3; temperature 6, 7
 abbrev pub txBits : (Side → ℕ → Bool) → List Bool
@@ -41,7 +55,7 @@ abbrev pub rxBits : (Side → ℕ → Bool) → List Bool
 rxBits flag = false ∷ false ∷ false ∷ false ∷ false ∷ false ∷ flag low receive ∷ flag high receive ∷ []
 
 -- the four flag words, from each level's flags
-abbrev pub flagWords : (ℕ → Side → ℕ → Bool) → Flags
+abbrev pub flagWords : ((Side → ℕ) → Side → ℕ → Bool) → Flags
 flagWords flag =
     record {
       txalarm = ofBits (txBits (flag alarm));

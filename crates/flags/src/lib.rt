@@ -2,7 +2,7 @@
 ghost use mathlib.Core.Path.{_≡_};
 ghost use Prim.Native.Nat.{_≤_};
 ghost use Rattle.words.specs.Words.{ofBits};
-ghost use Rattle.flags.specs.Flags.{high, low, codesOf, crossed, txBits, rxBits, flagsOf};
+ghost use Rattle.flags.specs.Flags.{columns, codesOf, above, below, crossed, txBits, rxBits, flagsOf};
 use dom::BIAS;
 use dom::RECEIVE;
 use dom::Sample;
@@ -10,6 +10,8 @@ use dom::TEMPERATURE;
 use dom::TRANSMIT;
 use dom::thresholds::HIGH_ALARM;
 use dom::thresholds::HIGH_WARNING;
+use dom::thresholds::LOW_ALARM;
+use dom::thresholds::LOW_WARNING;
 use words::of_bits;
 
 // The words of A070, A071, A074 and A075 (MSA: TX_FLAG and RX_FLAG).
@@ -20,48 +22,43 @@ pub struct Flags {
     pub rxwarning: u16,
 }
 
-// The levels, by the column of the high threshold; the low one is in the next.
-const ALARM: usize = HIGH_ALARM;
-
-const WARNING: usize = HIGH_WARNING;
-
-// A high flag.
-fn above(t: [[i32; 4]; 4], codes: [i32; 4], level: usize, q: usize) -> bool
-    requires { ⌜ (q ≤ 3) × (level ≤ 2) ⌝ }
-    ensures { λ r. ⌜ r ≡ crossed t codes level high q ⌝ }
+// Quantity q is above the threshold in a column.
+fn above(t: [[i32; 4]; 4], codes: [i32; 4], q: usize, column: usize) -> bool
+    requires { ⌜ (q ≤ 3) × (column ≤ 3) ⌝ }
+    ensures { λ r. ⌜ r ≡ above t codes q column ⌝ }
 {
-    t[q][level] < codes[q]
+    t[q][column] < codes[q]
 }
 
-// A low flag.
-fn below(t: [[i32; 4]; 4], codes: [i32; 4], level: usize, q: usize) -> bool
-    requires { ⌜ (q ≤ 3) × (level ≤ 2) ⌝ }
-    ensures { λ r. ⌜ r ≡ crossed t codes level low q ⌝ }
+// Quantity q is below the threshold in a column.
+fn below(t: [[i32; 4]; 4], codes: [i32; 4], q: usize, column: usize) -> bool
+    requires { ⌜ (q ≤ 3) × (column ≤ 3) ⌝ }
+    ensures { λ r. ⌜ r ≡ below t codes q column ⌝ }
 {
-    codes[q] < t[q][level + 1]
+    codes[q] < t[q][column]
 }
 
-// A070 or A074.
-fn tx_flags(t: [[i32; 4]; 4], codes: [i32; 4], level: usize) -> u16
-    requires { ⌜ level ≤ 2 ⌝ }
-    ensures { λ r. ⌜ r ≡ ofBits (txBits (crossed t codes level)) ⌝ }
+// A070 or A074, by the columns of the level's thresholds.
+fn tx_flags(t: [[i32; 4]; 4], codes: [i32; 4], high: usize, low: usize) -> u16
+    requires { ⌜ (high ≤ 3) × (low ≤ 3) ⌝ }
+    ensures { λ r. ⌜ r ≡ ofBits (txBits (crossed t codes (columns high low))) ⌝ }
 {
     of_bits(
-        below(t, codes, level, TRANSMIT),
-        above(t, codes, level, TRANSMIT),
-        below(t, codes, level, BIAS),
-        above(t, codes, level, BIAS),
+        below(t, codes, TRANSMIT, low),
+        above(t, codes, TRANSMIT, high),
+        below(t, codes, BIAS, low),
+        above(t, codes, BIAS, high),
         false,
         false,
-        below(t, codes, level, TEMPERATURE),
-        above(t, codes, level, TEMPERATURE),
+        below(t, codes, TEMPERATURE, low),
+        above(t, codes, TEMPERATURE, high),
     )
 }
 
-// A071 or A075.
-fn rx_flags(t: [[i32; 4]; 4], codes: [i32; 4], level: usize) -> u16
-    requires { ⌜ level ≤ 2 ⌝ }
-    ensures { λ r. ⌜ r ≡ ofBits (rxBits (crossed t codes level)) ⌝ }
+// A071 or A075, by the columns of the level's thresholds.
+fn rx_flags(t: [[i32; 4]; 4], codes: [i32; 4], high: usize, low: usize) -> u16
+    requires { ⌜ (high ≤ 3) × (low ≤ 3) ⌝ }
+    ensures { λ r. ⌜ r ≡ ofBits (rxBits (crossed t codes (columns high low))) ⌝ }
 {
     of_bits(
         false,
@@ -70,12 +67,12 @@ fn rx_flags(t: [[i32; 4]; 4], codes: [i32; 4], level: usize) -> u16
         false,
         false,
         false,
-        below(t, codes, level, RECEIVE),
-        above(t, codes, level, RECEIVE),
+        below(t, codes, RECEIVE, low),
+        above(t, codes, RECEIVE, high),
     )
 }
 
-// A sample's codes in the order of the rows.
+// A sample's codes, in the order of the quantities.
 fn codes_of(s: Sample) -> [i32; 4]
     ensures { λ r. ⌜ r ≡ codesOf s ⌝ }
 {
@@ -93,9 +90,9 @@ pub fn flags_of(t: [[i32; 4]; 4], s: Sample) -> Flags
 {
     let codes = codes_of(s);
     Flags {
-        txalarm: tx_flags(t, codes, ALARM),
-        rxalarm: rx_flags(t, codes, ALARM),
-        txwarning: tx_flags(t, codes, WARNING),
-        rxwarning: rx_flags(t, codes, WARNING),
+        txalarm: tx_flags(t, codes, HIGH_ALARM, LOW_ALARM),
+        rxalarm: rx_flags(t, codes, HIGH_ALARM, LOW_ALARM),
+        txwarning: tx_flags(t, codes, HIGH_WARNING, LOW_WARNING),
+        rxwarning: rx_flags(t, codes, HIGH_WARNING, LOW_WARNING),
     }
 }
