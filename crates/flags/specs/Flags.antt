@@ -12,6 +12,7 @@ use Rattle.dom.specs.Thresholds.{highAlarm, lowAlarm, highWarning, lowWarning}
 use Rattle.dom.specs.declared.Sample.{Sample}
 use Rattle.flags.specs.declared.Flags.{Flags}
 
+-- a flag is for a reading above its high threshold, or below its low one
 pub data Side : Type 0 where
   high low : Side
 
