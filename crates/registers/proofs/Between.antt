@@ -1,6 +1,7 @@
 -- The register at an address that lies between two numbers: `register-between` decides each row's test by them.
+-- And no address stands in two rows: `rows-ascend`.
 -- Assumes nothing.
-use Prim.Native.Nat.{ℕ, _≤_, _<_}
+use Prim.Native.Nat.{ℕ, suc, _≤_, _<_}
 use native.Mathlib.Omega.{arith}
 use mathlib.Core.Path.{_≡_, refl, sym, ap, _∙_}
 use mathlib.Core.Bool.{Bool, true, false, cond, _&&_, _||_, and-false}
@@ -64,3 +65,12 @@ elsewhere k a other = neither (leb k a) (leb a k) (λ p q. other (omega (arith, 
     neither true true f = absurd (f tt tt)
     neither true false f = refl
     neither false q f = refl
+
+-- each row begins at n or after it, and after the row before it
+abbrev pub ascending : ℕ → List Row → Bool
+ascending n [] = true
+ascending n (r ∷ rs) = leb n (r .first) && leb (r .first) (r .last) && ascending (suc (r .last)) rs
+
+pub rows-ascend : ascending 0 rows ≡ true
+unfolding rows
+rows-ascend = refl

@@ -7,15 +7,11 @@ use Rattle.words.proofs.Laws.{bit-above}
 use Rattle.words.proofs.bit.Statement.{statement}
 use Rattle.words.proofs.bit.Tie as tie
 
-shr-result : tie.Need-shr-result
-shr-result c = search needs
-
-returns : tie.Need-returns
-unfolding bit
-returns c = search needs
-
-returns-2 : tie.Need-returns-2
-returns-2 c = sym (bit-above 16 (c .before .args .i) (c .before .args .word) (c .before .fits .word .fits) (c .if1 .left))
-
 pub bit-spec : {M : Type 1} → statement M
-bit-spec = tie.close (tie.spec shr-result returns returns-2)
+unfolding bit
+bit-spec =
+    tie.close
+    (tie.spec
+    (λ c. search needs)
+    (λ c. search needs)
+    (λ c. sym (bit-above 16 (c .before .args .i) (c .before .args .word) (c .before .fits .word .fits) (c .if1 .left))))

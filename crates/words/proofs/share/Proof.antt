@@ -4,8 +4,5 @@ use Rattle.words.proofs.Laws.{share-and}
 use Rattle.words.proofs.share.Statement.{statement}
 use Rattle.words.proofs.share.Tie as tie
 
-returns : tie.Need-returns
-returns c = share-and (c .args .a) (c .args .b) (c .fits .b .fits)
-
 pub share-spec : {M : Type 1} → statement M
-share-spec = tie.close (tie.spec returns)
+share-spec = tie.close (tie.spec (λ c. share-and (c .args .a) (c .args .b) (c .fits .b .fits)))
