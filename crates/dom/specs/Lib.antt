@@ -2,3 +2,4 @@
 pub mod Codes
 pub mod Thresholds
 pub mod Readout
+pub mod Monitor

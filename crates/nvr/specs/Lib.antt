@@ -1,3 +1,5 @@
 -- What the contracts of `nvr` cite.
 pub mod Image
 pub mod Command
+pub mod Job
+pub mod Bytes

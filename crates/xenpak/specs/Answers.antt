@@ -1,0 +1,69 @@
+-- Document 01's number of each refusal, and the number and values of each answer.
+-- Assumes nothing.
+use Prim.Native.Nat.{ℕ}
+use mathlib.Core.List.{List, [], _∷_}
+use Rattle.xenpak.specs.declared.answers.Refusal.{Refusal}
+use Rattle.xenpak.specs.declared.answers.Refusal.the-variants.{Port, ImageLength, ThresholdsLength, Checksum, ThresholdOrder, Temperature, PoweredOff, PoweredOn}
+use Rattle.xenpak.specs.declared.answers.Answer.{Answer}
+use Rattle.xenpak.specs.declared.answers.Answer.the-variants as plain
+use Rattle.xenpak.specs.declared.answers.FrameAnswer.{FrameAnswer}
+use Rattle.xenpak.specs.declared.answers.FrameAnswer.the-variants as frame
+use Rattle.xenpak.specs.declared.answers.TickAnswer.{TickAnswer}
+use Rattle.xenpak.specs.declared.answers.TickAnswer.the-variants as tick
+use Rattle.xenpak.specs.declared.answers.SettleAnswer.{SettleAnswer}
+use Rattle.xenpak.specs.declared.answers.SettleAnswer.the-variants as settle
+use Rattle.xenpak.specs.declared.answers.CallAnswer.{CallAnswer}
+use Rattle.xenpak.specs.declared.answers.CallAnswer.the-variants as call
+
+abbrev pub refusalNumber : Refusal → ℕ
+refusalNumber Port = 1
+refusalNumber ImageLength = 2
+refusalNumber ThresholdsLength = 3
+refusalNumber Checksum = 4
+refusalNumber ThresholdOrder = 5
+refusalNumber Temperature = 6
+refusalNumber PoweredOff = 7
+refusalNumber PoweredOn = 8
+
+-- an answer as document 01 gives it: the refusal's number, 0 where there is none; which of the answers that it names for
+-- the call, in its order, from 0; and the values that come with it
+pub record Said : Type 0 where
+  pub refusal : ℕ
+  pub which : ℕ
+  pub values : List ℕ
+
+abbrev pub refusedWith : Refusal → Said
+refusedWith why = record { refusal = refusalNumber why; which = 0; values = [] }
+
+abbrev pub says : ℕ → List ℕ → Said
+says n vs = record { refusal = 0; which = n; values = vs }
+
+abbrev pub saidPlain : Answer → Said
+saidPlain plain.Accepted = says 0 []
+saidPlain (plain.Refused why) = refusedWith why
+
+-- silent, set, written, dropped, data
+abbrev pub saidFrame : FrameAnswer → Said
+saidFrame frame.Silent = says 0 []
+saidFrame frame.Set = says 1 []
+saidFrame frame.Written = says 2 []
+saidFrame frame.Dropped = says 3 []
+saidFrame (frame.Data value) = says 4 (value ∷ [])
+saidFrame (frame.Refused why) = refusedWith why
+
+-- nothing, loaded, burned; offset and byte
+abbrev pub saidTick : TickAnswer → Said
+saidTick tick.Nothing = says 0 []
+saidTick (tick.Loaded offset byte) = says 1 (offset ∷ byte ∷ [])
+saidTick (tick.Burned offset byte) = says 2 (offset ∷ byte ∷ [])
+saidTick (tick.Refused why) = refusedWith why
+
+-- the count
+abbrev pub saidSettle : SettleAnswer → Said
+saidSettle (settle.Ticks count) = says 0 (count ∷ [])
+saidSettle (settle.Refused why) = refusedWith why
+
+abbrev pub said : CallAnswer → Said
+said (call.Plain answer) = saidPlain answer
+said (call.Frame answer) = saidFrame answer
+said (call.Tick answer) = saidTick answer

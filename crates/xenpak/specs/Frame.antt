@@ -1,0 +1,97 @@
+-- A frame: what a register reads, the answer, and the record after it. Document 01, "Frames" and "Registers".
+-- Assumes nothing.
+use Prim.Native.Nat.{ℕ}
+use mathlib.Core.List.{List}
+use lib.ListN.{getD}
+use Rattle.registers.specs.declared.Register.{Register}
+use Rattle.registers.specs.declared.Register.the-variants as register
+use Rattle.action.specs.Action.{actionOf}
+use Rattle.action.specs.declared.Action.{Action}
+use Rattle.action.specs.declared.Action.the-variants as action
+use Rattle.nvr.specs.Job.{isBusy, wordOf, pmaWord, jobAfter}
+use Rattle.nvr.specs.Bytes.{writtenCopy}
+use Rattle.dom.specs.Monitor.{valueOf, monitorAfter}
+use Rattle.lasi.specs.Controls.{controlAt}
+use Rattle.lasi.specs.Alarms.{statusAt, flagsAt, alarmsAfter}
+use Rattle.xenpak.specs.Bus.{busAfter}
+use Rattle.xenpak.specs.declared.answers.Refusal.the-variants.{PoweredOff}
+use Rattle.xenpak.specs.declared.answers.FrameAnswer.{FrameAnswer}
+use Rattle.xenpak.specs.declared.answers.FrameAnswer.the-variants.{Silent, Set, Written, Dropped, Data, Refused}
+use Rattle.xenpak.specs.declared.Module.{Module}
+use Rattle.xenpak.specs.declared.FrameOutcome.{FrameOutcome}
+
+-- threshold byte k, as given
+abbrev pub thresholdAt : List ℕ → ℕ → ℕ
+thresholdAt thresholds k = getD thresholds k 0
+
+-- the byte of the copy or the thresholds that a register has
+abbrev pub byteAt : Module → Register → ℕ
+byteAt m register.PmaControl = 0
+byteAt m register.NvrControl = 0
+byteAt m (register.Copy offset) = getD (m .copy) offset 0
+byteAt m (register.Customer offset) = getD (m .copy) offset 0
+byteAt m (register.Control i) = 0
+byteAt m (register.Status i) = 0
+byteAt m (register.Threshold k) = thresholdAt (m .thresholds) k
+byteAt m (register.Sample quantity low) = 0
+byteAt m (register.Flags i) = 0
+byteAt m register.Unlisted = 0
+
+-- what a register reads
+abbrev pub valueAt : Module → Register → ℕ
+valueAt m register.PmaControl = pmaWord (m .job)
+valueAt m register.NvrControl = wordOf (m .job)
+valueAt m (register.Copy offset) = getD (m .copy) offset 0
+valueAt m (register.Customer offset) = getD (m .copy) offset 0
+valueAt m (register.Control i) = controlAt (m .alarms .controls) i
+valueAt m (register.Status i) = statusAt (m .alarms) i
+valueAt m (register.Threshold k) = thresholdAt (m .thresholds) k
+valueAt m (register.Sample quantity low) = valueOf (m .monitor) quantity low
+valueAt m (register.Flags i) = flagsAt (m .alarms) i
+valueAt m register.Unlisted = 0
+
+-- the register that a frame reads
+abbrev pub registerOf : Action → Register
+registerOf action.Refused = register.Unlisted
+registerOf action.Silent = register.Unlisted
+registerOf (action.SetAddress a) = register.Unlisted
+registerOf action.Dropped = register.Unlisted
+registerOf action.Reset = register.Unlisted
+registerOf (action.Command word) = register.Unlisted
+registerOf (action.Customer offset byte) = register.Unlisted
+registerOf (action.Control i word) = register.Unlisted
+registerOf (action.Read r increment) = r
+
+-- the answer of a frame that reads this value
+abbrev pub answerOf : Action → ℕ → FrameAnswer
+answerOf action.Refused value = Refused PoweredOff
+answerOf action.Silent value = Silent
+answerOf (action.SetAddress a) value = Set
+answerOf action.Dropped value = Dropped
+answerOf action.Reset value = Written
+answerOf (action.Command word) value = Written
+answerOf (action.Customer offset byte) value = Written
+answerOf (action.Control i word) value = Written
+answerOf (action.Read r increment) value = Data value
+
+-- each part after a frame
+abbrev pub moduleAfter : Module → Action → Module
+moduleAfter m a =
+    record {
+      store = m .store;
+      job = jobAfter (m .job) a;
+      copy = writtenCopy (m .copy) a;
+      powered = m .powered;
+      port = m .port;
+      thresholds = m .thresholds;
+      bus = busAfter (m .bus) a;
+      alarms = alarmsAfter (m .alarms) a;
+      monitor = monitorAfter (m .monitor) a;
+    }
+
+-- a read gives the value before it clears
+abbrev pub frameBy : Module → Action → FrameOutcome
+frameBy m a = record { next = moduleAfter m a; answer = answerOf a (valueAt m (registerOf a)) }
+
+unfoldable pub frame : Module → ℕ → FrameOutcome
+frame m word = frameBy m (actionOf (m .powered) (m .port) (m .bus .address) (isBusy (m .job)) word)

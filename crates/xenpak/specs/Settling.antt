@@ -1,0 +1,30 @@
+-- Settling (document 01: settling): ticks until no job is due or the budget is spent.
+-- Assumes nothing.
+use Prim.Native.Nat.{ℕ, zero, suc, _+_, _-_, min}
+use mathlib.Core.Bool.{cond}
+use lib.Dec.{eqb}
+use Rattle.nvr.specs.Job.{none}
+use Rattle.nvr.specs.declared.job.Job.{Job}
+use Rattle.xenpak.specs.Calls.{tick}
+use Rattle.xenpak.specs.declared.answers.Refusal.the-variants.{PoweredOff}
+use Rattle.xenpak.specs.declared.answers.SettleAnswer.the-variants.{Ticks, Refused}
+use Rattle.xenpak.specs.declared.Module.{Module}
+use Rattle.xenpak.specs.declared.SettleOutcome.{SettleOutcome}
+
+-- the record after n ticks
+unfoldable pub ticks : ℕ → Module → Module
+ticks zero m = m
+ticks (suc n) m = tick (ticks n m) .next
+
+-- the ticks due: the job's remaining bytes
+abbrev pub due : Job → ℕ
+due j = cond (eqb (j .kind) none) 0 (j .last - j .due + 1)
+
+-- the count is the lesser of budget and ticks due, and settling stands for that many ticks
+abbrev pub settled : Module → ℕ → SettleOutcome
+settled m budget =
+    record { next = ticks (min budget (due (m .job))) m; answer = Ticks (min budget (due (m .job))) }
+
+-- refused with 7 when off
+unfoldable pub settle : Module → ℕ → SettleOutcome
+settle m budget = cond (m .powered) (settled m budget) (record { next = m; answer = Refused PoweredOff })

@@ -1,0 +1,509 @@
+// The XENPAK management core: the module's record and its calls. A call is decided once, then each part of the record
+// reacts to the decision; no branch holds the record.
+ghost use mathlib.Core.Path.{_≡_};
+ghost use mathlib.Core.Bool.{true};
+ghost use lib.ListN.{getD};
+ghost use Rattle.lasi.specs.Alarms.{alarmLine};
+ghost use Rattle.xenpak.specs.Frame.{thresholdAt, byteAt, valueAt, registerOf, answerOf, moduleAfter, frame};
+ghost use Rattle.xenpak.specs.Calls.{onAnswer, offAnswer, sampleAnswer, tickAnswer, plain, framed, ticked, started, powerOn, powerCut, resetPin, tick, lines, sample, step};
+ghost use Rattle.xenpak.specs.Settling.{settled, settle};
+
+pub mod answers;
+pub mod bus;
+pub mod making;
+
+use crate::answers::Answer;
+use crate::answers::Call;
+use crate::answers::CallAnswer;
+use crate::answers::FrameAnswer;
+use crate::answers::Refusal;
+use crate::answers::SettleAnswer;
+use crate::answers::TickAnswer;
+use crate::bus::Bus;
+use action::Action;
+use action::decide;
+use dom::Sample;
+use dom::acceptable;
+use dom::monitor::Monitor;
+use dom::thresholds::thresholds_of;
+use flags::flags_of;
+use lasi::Alarms;
+use lasi::Lines;
+use nvr::bytes::Cut;
+use nvr::bytes::byte_at;
+use nvr::bytes::move_byte;
+use nvr::bytes::start_copy;
+use nvr::bytes::strike;
+use nvr::bytes::write_copy;
+use nvr::job::Job;
+use nvr::job::Work;
+use registers::Register;
+
+#[repr(C)]
+pub struct Module {
+    pub store: [u8; 256],
+    pub job: Job,
+    pub copy: [u8; 256],
+    pub powered: bool,
+    pub port: u8,
+    pub thresholds: [u8; 40],
+    pub bus: Bus,
+    pub alarms: Alarms,
+    pub monitor: Monitor,
+}
+
+// A call's answer beside the record after it.
+pub struct Outcome {
+    pub next: Module,
+    pub answer: Answer,
+}
+
+pub struct FrameOutcome {
+    pub next: Module,
+    pub answer: FrameAnswer,
+}
+
+pub struct TickOutcome {
+    pub next: Module,
+    pub answer: TickAnswer,
+}
+
+pub struct SettleOutcome {
+    pub next: Module,
+    pub answer: SettleAnswer,
+}
+
+pub struct CallOutcome {
+    pub next: Module,
+    pub answer: CallAnswer,
+}
+
+// The answer of a call that needs power.
+fn on_answer(powered: bool) -> Answer
+    ensures { λ r. ⌜ r ≡ onAnswer powered ⌝ }
+{
+    if powered {
+        Answer::Accepted
+    } else {
+        Answer::Refused(Refusal::PoweredOff)
+    }
+}
+
+// The answer of power-on.
+fn off_answer(powered: bool) -> Answer
+    ensures { λ r. ⌜ r ≡ offAnswer powered ⌝ }
+{
+    if powered {
+        Answer::Refused(Refusal::PoweredOn)
+    } else {
+        Answer::Accepted
+    }
+}
+
+// The answer of a sample: 7 precedes 6.
+fn sample_answer(powered: bool, right: bool) -> Answer
+    ensures { λ r. ⌜ r ≡ sampleAnswer powered right ⌝ }
+{
+    if powered {
+        if right {
+            Answer::Accepted
+        } else {
+            Answer::Refused(Refusal::Temperature)
+        }
+    } else {
+        Answer::Refused(Refusal::PoweredOff)
+    }
+}
+
+// The answer of a tick that moves this byte.
+fn tick_answer(work: Work, byte: u8) -> TickAnswer
+    ensures { λ r. ⌜ r ≡ tickAnswer work byte ⌝ }
+{
+    match work {
+        Work::Refused => TickAnswer::Refused(Refusal::PoweredOff),
+        Work::Nothing => TickAnswer::Nothing,
+        Work::Load(offset) => TickAnswer::Loaded(offset, byte),
+        Work::Burn(offset) => TickAnswer::Burned(offset, byte),
+    }
+}
+
+// The register that a frame reads.
+fn register_of(action: Action) -> Register
+    ensures { λ r. ⌜ r ≡ registerOf action ⌝ }
+{
+    match action {
+        Action::Refused => Register::Unlisted,
+        Action::Silent => Register::Unlisted,
+        Action::SetAddress(_) => Register::Unlisted,
+        Action::Dropped => Register::Unlisted,
+        Action::Reset => Register::Unlisted,
+        Action::Command(_) => Register::Unlisted,
+        Action::Customer(_, _) => Register::Unlisted,
+        Action::Control(_, _) => Register::Unlisted,
+        Action::Read(register, _) => register,
+    }
+}
+
+// The answer of a frame that reads this value.
+fn answer_of(action: Action, value: u16) -> FrameAnswer
+    ensures { λ r. ⌜ r ≡ answerOf action value ⌝ }
+{
+    match action {
+        Action::Refused => FrameAnswer::Refused(Refusal::PoweredOff),
+        Action::Silent => FrameAnswer::Silent,
+        Action::SetAddress(_) => FrameAnswer::Set,
+        Action::Dropped => FrameAnswer::Dropped,
+        Action::Reset => FrameAnswer::Written,
+        Action::Command(_) => FrameAnswer::Written,
+        Action::Customer(_, _) => FrameAnswer::Written,
+        Action::Control(_, _) => FrameAnswer::Written,
+        Action::Read(_, _) => FrameAnswer::Data(value),
+    }
+}
+
+fn threshold_at(thresholds: &[u8; 40], k: u8) -> u8
+    ensures { λ r. ⌜ r ≡ thresholdAt (now (thresholds .entry)) k ⌝ }
+{
+    if k < 40 { thresholds[k as usize] } else { 0 }
+}
+
+impl Module {
+    // What power-on and reset share, if it is accepted: a first load starts, with all at zero but port, store,
+    // thresholds, power and these alarms.
+    fn started(mut self, accepted: bool, alarms: Alarms) -> Module
+        ensures { λ r. ⌜ r ≡ started accepted alarms self ⌝ }
+    {
+        let job = self.job;
+        let bus = self.bus;
+        let monitor = self.monitor;
+        let next_job = job.started(accepted);
+        let next_bus = bus.started(accepted);
+        let next_monitor = monitor.started(accepted);
+        let mut copy = self.copy;
+        start_copy(&mut copy, accepted);
+        self.job = next_job;
+        self.copy = copy;
+        self.bus = next_bus;
+        self.alarms = alarms;
+        self.monitor = next_monitor;
+        self
+    }
+
+    pub fn power_on(mut self) -> Outcome
+        ensures { λ r. ⌜ r ≡ powerOn self ⌝ }
+    {
+        let powered = self.powered;
+        let answer = off_answer(powered);
+        let alarms = self.alarms;
+        let silent = alarms.powered(!powered);
+        self.powered = true;
+        let next = self.started(!powered, silent);
+        Outcome {
+            next: next,
+            answer: answer,
+        }
+    }
+
+    pub fn reset_pin(self) -> Outcome
+        ensures { λ r. ⌜ r ≡ resetPin self ⌝ }
+    {
+        let powered = self.powered;
+        let answer = on_answer(powered);
+        let alarms = self.alarms;
+        let cleared = alarms.reset(powered);
+        let next = self.started(powered, cleared);
+        Outcome {
+            next: next,
+            answer: answer,
+        }
+    }
+
+    pub fn power_cut(mut self, cut: Cut) -> Outcome
+        ensures { λ r. ⌜ r ≡ powerCut self cut ⌝ }
+    {
+        let powered = self.powered;
+        let answer = on_answer(powered);
+        let job = self.job;
+        let work = job.work(powered);
+        let mut store = self.store;
+        strike(&mut store, work, cut);
+        self.store = store;
+        self.powered = false;
+        Outcome {
+            next: self,
+            answer: answer,
+        }
+    }
+
+    pub fn tick(mut self) -> TickOutcome
+        ensures { λ r. ⌜ r ≡ tick self ⌝ }
+    {
+        let job = self.job;
+        let powered = self.powered;
+        let work = job.work(powered);
+        let next_job = job.after_work(work);
+        self.job = next_job;
+        let mut store = self.store;
+        let mut copy = self.copy;
+        let byte = move_byte(&mut store, &mut copy, work);
+        self.store = store;
+        self.copy = copy;
+        let answer = tick_answer(work, byte);
+        TickOutcome {
+            next: self,
+            answer: answer,
+        }
+    }
+
+    pub fn lines(mut self, given: Lines) -> Outcome
+        ensures { λ r. ⌜ r ≡ lines self given ⌝ }
+    {
+        let powered = self.powered;
+        let answer = on_answer(powered);
+        let alarms = self.alarms;
+        let next_alarms = alarms.lines(powered, given);
+        self.alarms = next_alarms;
+        Outcome {
+            next: self,
+            answer: answer,
+        }
+    }
+
+    pub fn sample(mut self, given: Sample) -> Outcome
+        ensures { λ r. ⌜ r ≡ sample self given ⌝ }
+    {
+        let powered = self.powered;
+        let right = acceptable(given.temperature);
+        let answer = sample_answer(powered, right);
+        let accepted = powered & right;
+        let thresholds = self.thresholds;
+        let table = thresholds_of(&thresholds);
+        let flags = flags_of(table, given);
+        let alarms = self.alarms;
+        let monitor = self.monitor;
+        let next_alarms = alarms.sampled(accepted, flags);
+        let next_monitor = monitor.sampled(accepted, given);
+        self.alarms = next_alarms;
+        self.monitor = next_monitor;
+        Outcome {
+            next: self,
+            answer: answer,
+        }
+    }
+
+    // The byte of the copy or the thresholds that a frame reads.
+    fn byte(self, action: Action) -> u8
+        ensures { λ r. ⌜ r ≡ byteAt self (registerOf action) ⌝ }
+    {
+        match action {
+            Action::Refused => 0,
+            Action::Silent => 0,
+            Action::SetAddress(_) => 0,
+            Action::Dropped => 0,
+            Action::Reset => 0,
+            Action::Command(_) => 0,
+            Action::Customer(_, _) => 0,
+            Action::Control(_, _) => 0,
+            Action::Read(register, _) => match register {
+                Register::PmaControl => 0,
+                Register::NvrControl => 0,
+                Register::Copy(offset) => {
+                    let copy = self.copy;
+                    byte_at(&copy, offset)
+                }
+                Register::Customer(offset) => {
+                    let copy = self.copy;
+                    byte_at(&copy, offset)
+                }
+                Register::Control(_) => 0,
+                Register::Status(_) => 0,
+                Register::Threshold(k) => {
+                    let thresholds = self.thresholds;
+                    threshold_at(&thresholds, k)
+                }
+                Register::Sample(_, _) => 0,
+                Register::Flags(_) => 0,
+                Register::Unlisted => 0,
+            },
+        }
+    }
+
+    // What a register reads; `byte` is the copy's or the thresholds' there.
+    fn value(self, register: Register, byte: u8) -> u16
+        requires { ⌜ byte ≡ byteAt self register ⌝ }
+        ensures { λ r. ⌜ r ≡ valueAt self register ⌝ }
+    {
+        match register {
+            Register::PmaControl => {
+                let job = self.job;
+                job.pma_word()
+            }
+            Register::NvrControl => {
+                let job = self.job;
+                job.word()
+            }
+            Register::Copy(_) => byte as u16,
+            Register::Customer(_) => byte as u16,
+            Register::Control(i) => {
+                let alarms = self.alarms;
+                let controls = alarms.controls;
+                controls.value(i)
+            }
+            Register::Status(i) => {
+                let alarms = self.alarms;
+                alarms.status_at(i)
+            }
+            Register::Threshold(_) => byte as u16,
+            Register::Sample(quantity, low) => {
+                let monitor = self.monitor;
+                monitor.value(quantity, low)
+            }
+            Register::Flags(i) => {
+                let alarms = self.alarms;
+                alarms.flags_at(i)
+            }
+            Register::Unlisted => 0,
+        }
+    }
+
+    // Each part after a frame.
+    fn after(mut self, action: Action) -> Module
+        ensures { λ r. ⌜ r ≡ moduleAfter self action ⌝ }
+    {
+        let job = self.job;
+        let bus = self.bus;
+        let alarms = self.alarms;
+        let monitor = self.monitor;
+        let next_job = job.after(action);
+        let next_bus = bus.after(action);
+        let next_alarms = alarms.after(action);
+        let next_monitor = monitor.after(action);
+        self.job = next_job;
+        self.bus = next_bus;
+        self.alarms = next_alarms;
+        self.monitor = next_monitor;
+        let mut copy = self.copy;
+        write_copy(&mut copy, action);
+        self.copy = copy;
+        self
+    }
+
+    pub fn frame(self, word: u32) -> FrameOutcome
+        ensures { λ r. ⌜ r ≡ frame self word ⌝ }
+    {
+        let job = self.job;
+        let busy = job.busy();
+        let action = decide(self.powered, self.port, self.bus.address, busy, word);
+        let byte = self.byte(action);
+        let register = register_of(action);
+        let value = self.value(register, byte);
+        let answer = answer_of(action, value);
+        let next = self.after(action);
+        FrameOutcome {
+            next: next,
+            answer: answer,
+        }
+    }
+
+    // Any call of the lists.
+    pub fn call(self, call: Call) -> CallOutcome
+        ensures { λ r. ⌜ r ≡ step self call ⌝ }
+    {
+        match call {
+            Call::PowerOn => plain(self.power_on()),
+            Call::Cut(cut) => plain(self.power_cut(cut)),
+            Call::ResetPin => plain(self.reset_pin()),
+            Call::Frame(word) => framed(self.frame(word)),
+            Call::Tick => ticked(self.tick()),
+            Call::Lines(lines) => plain(self.lines(lines)),
+            Call::Sample(sample) => plain(self.sample(sample)),
+        }
+    }
+
+    // Ticks of a powered module until no job is due or the budget is spent.
+    fn settled(self, budget: u32) -> SettleOutcome
+        requires { ⌜ self .powered ≡ true ⌝ }
+        ensures { λ r. ⌜ r ≡ settled self budget ⌝ }
+    {
+        let mut m = self;
+        let mut done: u32 = 0;
+        while done < budget {
+            let job = m.job;
+            if job.busy() {
+                let ticked = m.tick();
+                m = ticked.next;
+                done += 1;
+            } else {
+                break;
+            }
+        }
+        SettleOutcome {
+            next: m,
+            answer: SettleAnswer::Ticks(done),
+        }
+    }
+
+    pub fn settle(self, budget: u32) -> SettleOutcome
+        ensures { λ r. ⌜ r ≡ settle self budget ⌝ }
+    {
+        if self.powered {
+            return self.settled(budget);
+        }
+        SettleOutcome {
+            next: self,
+            answer: SettleAnswer::Refused(Refusal::PoweredOff),
+        }
+    }
+
+    // The alarm line, LASI.
+    pub fn alarm_line(self) -> bool
+        ensures { λ r. ⌜ r ≡ alarmLine (self .powered) (self .alarms) ⌝ }
+    {
+        let alarms = self.alarms;
+        alarms.line(self.powered)
+    }
+
+    // Data answers since power-on or reset.
+    pub fn counter(self) -> u16
+        ensures { λ r. ⌜ r ≡ self .bus .counter ⌝ }
+    {
+        self.bus.counter
+    }
+
+    pub fn stored(self, offset: u8) -> u8
+        ensures { λ r. ⌜ r ≡ getD (self .store) offset 0 ⌝ }
+    {
+        let store = self.store;
+        byte_at(&store, offset)
+    }
+}
+
+fn plain(outcome: Outcome) -> CallOutcome
+    ensures { λ r. ⌜ r ≡ plain outcome ⌝ }
+{
+    let answer = outcome.answer;
+    CallOutcome {
+        next: outcome.next,
+        answer: CallAnswer::Plain(answer),
+    }
+}
+
+fn framed(outcome: FrameOutcome) -> CallOutcome
+    ensures { λ r. ⌜ r ≡ framed outcome ⌝ }
+{
+    let answer = outcome.answer;
+    CallOutcome {
+        next: outcome.next,
+        answer: CallAnswer::Frame(answer),
+    }
+}
+
+fn ticked(outcome: TickOutcome) -> CallOutcome
+    ensures { λ r. ⌜ r ≡ ticked outcome ⌝ }
+{
+    let answer = outcome.answer;
+    CallOutcome {
+        next: outcome.next,
+        answer: CallAnswer::Tick(answer),
+    }
+}
