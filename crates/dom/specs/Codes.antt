@@ -1,9 +1,9 @@
 -- 16-bit codes: two bytes, high byte first; a temperature's is signed, in 1/256 degree.
 -- Assumes nothing.
-use Prim.Native.Nat.{ℕ, suc, _+_, _-_, _*_}
+use Prim.Native.Nat.{ℕ, _+_, _*_}
 use mathlib.Core.Bool.{Bool, cond, _&&_}
 use lib.Dec.{ltb}
-use lib.IntN.{ℤ, pos, negsuc, subℕ}
+use lib.IntN.{ℤ, pos, subℕ}
 use lib.Signed.{leZ}
 
 -- the code of two bytes
@@ -13,11 +13,6 @@ codeOf high low = high * 256 + low
 -- a code as a signed number: from 8000 on, less 10000
 abbrev pub signedCode : ℕ → ℤ
 signedCode n = cond (ltb n 0x8000) (pos n) (subℕ n 0x10000)
-
--- the 16 bits of a signed code: a negative one, plus 10000
-abbrev pub bitsOf : ℤ → ℕ
-bitsOf (pos n) = n
-bitsOf (negsuc n) = 0x10000 - suc n
 
 -- refusal 6 is for a temperature below D800 or above 7D00, as signed
 abbrev pub acceptable : ℤ → Bool

@@ -2,4 +2,3 @@
 pub mod Codes
 pub mod Thresholds
 pub mod Readout
-pub mod Monitor

@@ -1,8 +1,7 @@
-// Digital optical monitoring (DOM): codes, thresholds and their order, the last sample, and the temperature readout.
+// Digital optical monitoring (DOM): codes, thresholds and their order, and the temperature readout.
 ghost use mathlib.Core.Path.{_≡_};
-ghost use Rattle.dom.specs.Codes.{codeOf, signedCode, bitsOf, acceptable};
+ghost use Rattle.dom.specs.Codes.{codeOf, signedCode, acceptable};
 
-pub mod monitor;
 pub mod readout;
 pub mod thresholds;
 
@@ -39,17 +38,6 @@ pub fn signed_code(code: u16) -> i16
         code as i16
     } else {
         (code as i32 - 0x10000) as i16
-    }
-}
-
-// The 16 bits of a signed code.
-pub(crate) fn bits_of(code: i16) -> u16
-    ensures { λ r. ⌜ r ≡ bitsOf code ⌝ }
-{
-    if code < 0 {
-        (code as i32 + 0x10000) as u16
-    } else {
-        code as u16
     }
 }
 

@@ -277,7 +277,11 @@ impl Alarms {
     pub fn lines(self, accepted: bool, lines: Lines) -> Alarms
         ensures { λ r. ⌜ r ≡ afterLines accepted self lines ⌝ }
     {
-        if accepted { self.lines_taken(lines) } else { self }
+        if accepted {
+            self.lines_taken(lines)
+        } else {
+            self
+        }
     }
 
     // The flags of a sample.
@@ -299,6 +303,10 @@ impl Alarms {
     pub fn sampled(self, accepted: bool, flags: Flags) -> Alarms
         ensures { λ r. ⌜ r ≡ afterSample accepted self flags ⌝ }
     {
-        if accepted { self.flags_taken(flags) } else { self }
+        if accepted {
+            self.flags_taken(flags)
+        } else {
+            self
+        }
     }
 }

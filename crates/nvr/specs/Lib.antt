@@ -1,5 +1,3 @@
 -- What the contracts of `nvr` cite.
 pub mod Image
 pub mod Command
-pub mod Job
-pub mod Bytes

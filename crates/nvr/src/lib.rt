@@ -1,5 +1,3 @@
-// The module's non-volatile bytes (NVR): the image, the commands of register 8000, and the jobs that they start.
-pub mod bytes;
+// The module's non-volatile bytes (NVR): the image, and the commands of register 8000.
 pub mod command;
 pub mod image;
-pub mod job;

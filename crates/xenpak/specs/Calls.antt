@@ -3,14 +3,14 @@
 use Prim.Native.Nat.{ℕ}
 use mathlib.Core.Bool.{Bool, true, false, cond, not, _&&_}
 use mathlib.Core.List.{List, [], _∷_}
-use Rattle.nvr.specs.Job.{workOf, afterWork, startedJob}
-use Rattle.nvr.specs.Bytes.{movedByte, loadedCopy, burnedStore, struckStore, startedCopy}
-use Rattle.nvr.specs.declared.job.Work.{Work}
-use Rattle.nvr.specs.declared.job.Work.the-variants as work
-use Rattle.nvr.specs.declared.bytes.Cut.{Cut}
+use Rattle.jobs.specs.Job.{workOf, afterWork, startedJob}
+use Rattle.jobs.specs.Bytes.{movedByte, loadedCopy, burnedStore, struckStore, startedCopy}
+use Rattle.jobs.specs.declared.Work.{Work}
+use Rattle.jobs.specs.declared.Work.the-variants as work
+use Rattle.jobs.specs.declared.bytes.Cut.{Cut}
 use Rattle.dom.specs.Codes.{acceptable}
 use Rattle.dom.specs.Thresholds.{thresholdsOf}
-use Rattle.dom.specs.Monitor.{startedMonitor, sampledMonitor}
+use Rattle.monitor.specs.Monitor.{startedMonitor, sampledMonitor}
 use Rattle.dom.specs.declared.Sample.{Sample}
 use Rattle.flags.specs.Flags.{flagsOf}
 use Rattle.lasi.specs.Alarms.{poweredAlarms, resetAlarms, afterLines, afterSample}

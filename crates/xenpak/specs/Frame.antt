@@ -1,16 +1,15 @@
 -- A frame: what a register reads, the answer, and the record after it. Document 01, "Frames" and "Registers".
 -- Assumes nothing.
 use Prim.Native.Nat.{ℕ}
-use mathlib.Core.List.{List}
 use lib.ListN.{getD}
 use Rattle.registers.specs.declared.Register.{Register}
 use Rattle.registers.specs.declared.Register.the-variants as register
 use Rattle.action.specs.Action.{actionOf}
 use Rattle.action.specs.declared.Action.{Action}
 use Rattle.action.specs.declared.Action.the-variants as action
-use Rattle.nvr.specs.Job.{isBusy, wordOf, pmaWord, jobAfter}
-use Rattle.nvr.specs.Bytes.{writtenCopy}
-use Rattle.dom.specs.Monitor.{valueOf, monitorAfter}
+use Rattle.jobs.specs.Job.{isBusy, wordOf, pmaWord, jobAfter}
+use Rattle.jobs.specs.Bytes.{writtenCopy}
+use Rattle.monitor.specs.Monitor.{valueOf, monitorAfter}
 use Rattle.lasi.specs.Controls.{controlAt}
 use Rattle.lasi.specs.Alarms.{statusAt, flagsAt, alarmsAfter}
 use Rattle.xenpak.specs.Bus.{busAfter}
@@ -20,10 +19,6 @@ use Rattle.xenpak.specs.declared.answers.FrameAnswer.the-variants.{Silen
 use Rattle.xenpak.specs.declared.Module.{Module}
 use Rattle.xenpak.specs.declared.FrameOutcome.{FrameOutcome}
 
--- threshold byte k, as given
-abbrev pub thresholdAt : List ℕ → ℕ → ℕ
-thresholdAt thresholds k = getD thresholds k 0
-
 -- the byte of the copy or the thresholds that a register has
 abbrev pub byteAt : Module → Register → ℕ
 byteAt m register.PmaControl = 0
@@ -32,7 +27,7 @@ byteAt m (register.Copy offset) = getD (m .copy) offset 0
 byteAt m (register.Customer offset) = getD (m .copy) offset 0
 byteAt m (register.Control i) = 0
 byteAt m (register.Status i) = 0
-byteAt m (register.Threshold k) = thresholdAt (m .thresholds) k
+byteAt m (register.Threshold k) = getD (m .thresholds) k 0
 byteAt m (register.Sample quantity low) = 0
 byteAt m (register.Flags i) = 0
 byteAt m register.Unlisted = 0
@@ -45,7 +40,7 @@ valueAt m (register.Copy offset) = getD (m .copy) offset 0
 valueAt m (register.Customer offset) = getD (m .copy) offset 0
 valueAt m (register.Control i) = controlAt (m .alarms .controls) i
 valueAt m (register.Status i) = statusAt (m .alarms) i
-valueAt m (register.Threshold k) = thresholdAt (m .thresholds) k
+valueAt m (register.Threshold k) = getD (m .thresholds) k 0
 valueAt m (register.Sample quantity low) = valueOf (m .monitor) quantity low
 valueAt m (register.Flags i) = flagsAt (m .alarms) i
 valueAt m register.Unlisted = 0

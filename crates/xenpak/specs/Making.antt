@@ -6,10 +6,10 @@ use mathlib.Core.List.{List}
 use lib.Dec.{eqb, ltb}
 use lib.ListN.{length}
 use Rattle.nvr.specs.Image.{checksumRight}
-use Rattle.nvr.specs.Job.{noJob}
-use Rattle.nvr.specs.Bytes.{zeros}
+use Rattle.jobs.specs.Job.{noJob}
+use Rattle.jobs.specs.Bytes.{zeros}
 use Rattle.dom.specs.Thresholds.{thresholdsOf, ordered}
-use Rattle.dom.specs.Monitor.{noMonitor}
+use Rattle.monitor.specs.Monitor.{noMonitor}
 use Rattle.lasi.specs.Alarms.{noAlarms}
 use Rattle.xenpak.specs.Bus.{noBus}
 use Rattle.xenpak.specs.declared.answers.Refusal.{Refusal}

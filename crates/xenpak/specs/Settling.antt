@@ -3,8 +3,8 @@
 use Prim.Native.Nat.{ℕ, zero, suc, _+_, _-_, min}
 use mathlib.Core.Bool.{cond}
 use lib.Dec.{eqb}
-use Rattle.nvr.specs.Job.{none}
-use Rattle.nvr.specs.declared.job.Job.{Job}
+use Rattle.jobs.specs.Job.{none}
+use Rattle.jobs.specs.declared.Job.{Job}
 use Rattle.xenpak.specs.Calls.{tick}
 use Rattle.xenpak.specs.declared.answers.Refusal.the-variants.{PoweredOff}
 use Rattle.xenpak.specs.declared.answers.SettleAnswer.the-variants.{Ticks, Refused}

@@ -19,7 +19,11 @@ fn one_more(n: u16) -> u16
 fn next_address(address: u16, increment: bool) -> u16
     ensures { λ r. ⌜ r ≡ nextAddress address increment ⌝ }
 {
-    if increment { one_more(address) } else { address }
+    if increment {
+        one_more(address)
+    } else {
+        address
+    }
 }
 
 impl Bus {

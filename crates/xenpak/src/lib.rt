@@ -4,7 +4,7 @@ ghost use mathlib.Core.Path.{_≡_};
 ghost use mathlib.Core.Bool.{true};
 ghost use lib.ListN.{getD};
 ghost use Rattle.lasi.specs.Alarms.{alarmLine};
-ghost use Rattle.xenpak.specs.Frame.{thresholdAt, byteAt, valueAt, registerOf, answerOf, moduleAfter, frame};
+ghost use Rattle.xenpak.specs.Frame.{byteAt, valueAt, registerOf, answerOf, moduleAfter, frame};
 ghost use Rattle.xenpak.specs.Calls.{onAnswer, offAnswer, sampleAnswer, tickAnswer, plain, framed, ticked, started, powerOn, powerCut, resetPin, tick, lines, sample, step};
 ghost use Rattle.xenpak.specs.Settling.{settled, settle};
 
@@ -24,19 +24,19 @@ use action::Action;
 use action::decide;
 use dom::Sample;
 use dom::acceptable;
-use dom::monitor::Monitor;
+use monitor::Monitor;
 use dom::thresholds::thresholds_of;
 use flags::flags_of;
 use lasi::Alarms;
 use lasi::Lines;
-use nvr::bytes::Cut;
-use nvr::bytes::byte_at;
-use nvr::bytes::move_byte;
-use nvr::bytes::start_copy;
-use nvr::bytes::strike;
-use nvr::bytes::write_copy;
-use nvr::job::Job;
-use nvr::job::Work;
+use jobs::bytes::Cut;
+use jobs::bytes::byte_at;
+use jobs::bytes::move_byte;
+use jobs::bytes::start_copy;
+use jobs::bytes::strike;
+use jobs::bytes::write_copy;
+use jobs::Job;
+use jobs::Work;
 use registers::Register;
 
 #[repr(C)]
@@ -161,8 +161,8 @@ fn answer_of(action: Action, value: u16) -> FrameAnswer
     }
 }
 
-fn threshold_at(thresholds: &[u8; 40], k: u8) -> u8
-    ensures { λ r. ⌜ r ≡ thresholdAt (now (thresholds .entry)) k ⌝ }
+fn threshold_at(thresholds: [u8; 40], k: u8) -> u8
+    ensures { λ r. ⌜ r ≡ getD thresholds k 0 ⌝ }
 {
     if k < 40 { thresholds[k as usize] } else { 0 }
 }
@@ -319,7 +319,7 @@ impl Module {
                 Register::Status(_) => 0,
                 Register::Threshold(k) => {
                     let thresholds = self.thresholds;
-                    threshold_at(&thresholds, k)
+                    threshold_at(thresholds, k)
                 }
                 Register::Sample(_, _) => 0,
                 Register::Flags(_) => 0,
@@ -481,9 +481,10 @@ impl Module {
 fn plain(outcome: Outcome) -> CallOutcome
     ensures { λ r. ⌜ r ≡ plain outcome ⌝ }
 {
+    let next = outcome.next;
     let answer = outcome.answer;
     CallOutcome {
-        next: outcome.next,
+        next: next,
         answer: CallAnswer::Plain(answer),
     }
 }
@@ -491,9 +492,10 @@ fn plain(outcome: Outcome) -> CallOutcome
 fn framed(outcome: FrameOutcome) -> CallOutcome
     ensures { λ r. ⌜ r ≡ framed outcome ⌝ }
 {
+    let next = outcome.next;
     let answer = outcome.answer;
     CallOutcome {
-        next: outcome.next,
+        next: next,
         answer: CallAnswer::Frame(answer),
     }
 }
@@ -501,9 +503,10 @@ fn framed(outcome: FrameOutcome) -> CallOutcome
 fn ticked(outcome: TickOutcome) -> CallOutcome
     ensures { λ r. ⌜ r ≡ ticked outcome ⌝ }
 {
+    let next = outcome.next;
     let answer = outcome.answer;
     CallOutcome {
-        next: outcome.next,
+        next: next,
         answer: CallAnswer::Tick(answer),
     }
 }

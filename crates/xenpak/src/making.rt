@@ -7,12 +7,12 @@ use crate::Outcome;
 use crate::answers::Answer;
 use crate::answers::Refusal;
 use crate::bus::Bus;
-use dom::monitor::Monitor;
+use monitor::Monitor;
 use dom::thresholds::ordered;
 use dom::thresholds::thresholds_of;
 use lasi::Alarms;
 use nvr::image::checksum_right;
-use nvr::job::Job;
+use jobs::Job;
 
 // The bytes of a slice of 256.
 fn bytes256(bytes: &[u8]) -> [u8; 256]

@@ -1,0 +1,31 @@
+-- `jobs::Job::after` meets its contract.
+-- Assumes nothing.
+use borrow.Author.Needs.{needs}
+use Rattle.jobs.proofs.Job.after.Statement.{statement}
+use Rattle.jobs.proofs.Job.after.Tie as tie
+
+pub after-spec : {M : Type 1} → statement M
+after-spec =
+    tie.close
+    (tie.spec
+    (λ c. search needs)
+    (λ c. search needs)
+    (λ c. search needs)
+    (λ c. search needs)
+    (λ c. search needs)
+    (λ c κs. search needs)
+    (λ c. search needs)
+    (λ c κs. search needs)
+    (λ c. search needs)
+    (λ c. search needs)
+    (λ c. search needs)
+    (λ c κs. search needs)
+    (λ c. search needs)
+    (λ c. search needs)
+    (λ c. search needs)
+    (λ c. search needs)
+    (λ c. search needs)
+    (λ c. rw (c .of .ensures, c .before .before .action .given .1))
+    (λ c. search needs)
+    (λ c. search needs)
+    (λ c. rw (c .after-read .ensures, c .before .before .action2 .given .1)))

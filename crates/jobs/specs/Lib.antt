@@ -1,0 +1,3 @@
+-- What the contracts of `jobs` cite.
+pub mod Job
+pub mod Bytes

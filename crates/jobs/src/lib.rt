@@ -1,0 +1,230 @@
+// Register 8000, and the job that a command starts there: a load or a burn, one byte a tick.
+ghost use mathlib.Core.Path.{_≡_};
+ghost use Rattle.jobs.specs.Job.{noJob, firstLoad, commandJob, jobOf, isBusy, statusOf, wordOf, pmaWord, workOf, advanced, afterWork, afterRead, jobAfter, startedJob};
+
+pub mod bytes;
+
+use action::Action;
+use nvr::command::Command;
+use nvr::command::kept_bits;
+use registers::Register;
+
+// Kinds of job: no job, a load, a burn, and the first load after power-on or reset.
+pub const NONE: u8 = 0;
+
+pub const LOAD: u8 = 1;
+
+pub const BURN: u8 = 2;
+
+pub const FIRST: u8 = 3;
+
+#[repr(C)]
+pub struct Job {
+    // The word at 8000 without its status.
+    pub kept: u16,
+    pub kind: u8,
+    // The offset due, and the job's last one.
+    pub due: u8,
+    pub last: u8,
+    // The status that the latest job left, 1 done or 3 failed; 0, idle, once 8000 was read.
+    pub ended: u8,
+}
+
+// What a tick is to do.
+pub enum Work {
+    // Powered off: refusal 7.
+    Refused,
+    Nothing,
+    Load(u8),
+    Burn(u8),
+}
+
+impl Job {
+    pub fn none() -> Job
+        ensures { λ r. ⌜ r ≡ noJob ⌝ }
+    {
+        Job {
+            kept: 0,
+            kind: NONE,
+            due: 0,
+            last: 0,
+            ended: 0,
+        }
+    }
+
+    pub fn first_load() -> Job
+        ensures { λ r. ⌜ r ≡ firstLoad ⌝ }
+    {
+        Job {
+            kept: 0x0003,
+            kind: FIRST,
+            due: 0,
+            last: 255,
+            ended: 0,
+        }
+    }
+
+    // The job of a command, with the bits that 8000 keeps.
+    fn by(command: Command, kept: u16) -> Job
+        ensures { λ r. ⌜ r ≡ commandJob command kept ⌝ }
+    {
+        match command {
+            Command::LoadAll => Job {
+                kept: kept,
+                kind: LOAD,
+                due: 0,
+                last: 255,
+                ended: 0,
+            },
+            Command::LoadByte(offset) => Job {
+                kept: kept,
+                kind: LOAD,
+                due: offset,
+                last: offset,
+                ended: 0,
+            },
+            Command::BurnCustomer => Job {
+                kept: kept,
+                kind: BURN,
+                due: 119,
+                last: 166,
+                ended: 0,
+            },
+            Command::BurnByte(offset) => Job {
+                kept: kept,
+                kind: BURN,
+                due: offset,
+                last: offset,
+                ended: 0,
+            },
+            Command::Failed => Job {
+                kept: kept,
+                kind: NONE,
+                due: 0,
+                last: 0,
+                ended: 3,
+            },
+        }
+    }
+
+    // The job of a word written to 8000.
+    pub fn of(word: u16) -> Job
+        ensures { λ r. ⌜ r ≡ jobOf word ⌝ }
+    {
+        Job::by(Command::of(word), kept_bits(word))
+    }
+
+    pub fn busy(self) -> bool
+        ensures { λ r. ⌜ r ≡ isBusy self ⌝ }
+    {
+        self.kind != NONE
+    }
+
+    // Bits 3:2 of 8000: 0 idle, 1 done, 2 busy, 3 failed.
+    fn status(self) -> u8
+        ensures { λ r. ⌜ r ≡ statusOf self ⌝ }
+    {
+        if self.kind == NONE { self.ended } else { 2 }
+    }
+
+    // The word at 8000 as it reads.
+    pub fn word(self) -> u16
+        ensures { λ r. ⌜ r ≡ wordOf self ⌝ }
+    {
+        self.kept | 4 * (self.status() as u16)
+    }
+
+    // The word at 0000: 8000 is added while the first load runs.
+    pub fn pma_word(self) -> u16
+        ensures { λ r. ⌜ r ≡ pmaWord self ⌝ }
+    {
+        if self.kind == FIRST { 0xa040 } else { 0x2040 }
+    }
+
+    // What a tick is to do.
+    pub fn work(self, powered: bool) -> Work
+        ensures { λ r. ⌜ r ≡ workOf powered self ⌝ }
+    {
+        if powered {
+            if self.kind == NONE {
+                return Work::Nothing;
+            }
+            if self.kind == BURN {
+                return Work::Burn(self.due);
+            }
+            return Work::Load(self.due);
+        }
+        Work::Refused
+    }
+
+    // After a byte: the next offset is due, or the job is done.
+    fn advanced(mut self) -> Job
+        ensures { λ r. ⌜ r ≡ advanced self ⌝ }
+    {
+        let due = self.due;
+        if due < self.last {
+            self.due = due + 1;
+            return self;
+        }
+        self.kind = NONE;
+        self.ended = 1;
+        self
+    }
+
+    // After a tick.
+    pub fn after_work(self, work: Work) -> Job
+        ensures { λ r. ⌜ r ≡ afterWork self work ⌝ }
+    {
+        match work {
+            Work::Refused => self,
+            Work::Nothing => self,
+            Work::Load(_) => self.advanced(),
+            Work::Burn(_) => self.advanced(),
+        }
+    }
+
+    // After a read of a register: reading 8000 turns done or failed into idle.
+    fn after_read(mut self, register: Register) -> Job
+        ensures { λ r. ⌜ r ≡ afterRead self register ⌝ }
+    {
+        match register {
+            Register::PmaControl => self,
+            Register::NvrControl => {
+                self.ended = 0;
+                self
+            }
+            Register::Copy(_) => self,
+            Register::Customer(_) => self,
+            Register::Control(_) => self,
+            Register::Status(_) => self,
+            Register::Threshold(_) => self,
+            Register::Sample(_, _) => self,
+            Register::Flags(_) => self,
+            Register::Unlisted => self,
+        }
+    }
+
+    // After a frame.
+    pub fn after(self, action: Action) -> Job
+        ensures { λ r. ⌜ r ≡ jobAfter self action ⌝ }
+    {
+        match action {
+            Action::Refused => self,
+            Action::Silent => self,
+            Action::SetAddress(_) => self,
+            Action::Dropped => self,
+            Action::Reset => Job::first_load(),
+            Action::Command(word) => Job::of(word),
+            Action::Customer(_, _) => self,
+            Action::Control(_, _) => self,
+            Action::Read(register, _) => self.after_read(register),
+        }
+    }
+
+    // After power-on or the reset pin, if it is accepted.
+    pub fn started(self, accepted: bool) -> Job
+        ensures { λ r. ⌜ r ≡ startedJob accepted self ⌝ }
+    {
+        if accepted { Job::first_load() } else { self }
+    }
+}

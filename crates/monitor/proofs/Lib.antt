@@ -1,0 +1,2 @@
+-- Laws of `monitor` that belong to no one function.
+pub mod Bits

@@ -1,0 +1,2 @@
+-- What the contracts of `monitor` cite.
+pub mod Monitor

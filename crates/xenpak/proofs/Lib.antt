@@ -1,0 +1,3 @@
+-- Laws that the proofs of `xenpak` and the crates above cite.
+pub mod Copying
+pub mod Settling
