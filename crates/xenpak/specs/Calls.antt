@@ -125,23 +125,22 @@ tickBy m w =
 unfoldable pub tick : Module → TickOutcome
 tick m = tickBy m (workOf (m .powered) (m .job))
 
-unfoldable pub lines : Module → Lines → Outcome
-lines m l =
+abbrev pub linesBy : Module → Lines → Bool → Module
+linesBy m l accepted =
     record {
-      next =
-          record {
-            store = m .store;
-            job = m .job;
-            copy = m .copy;
-            powered = m .powered;
-            port = m .port;
-            thresholds = m .thresholds;
-            bus = m .bus;
-            alarms = afterLines (m .powered) (m .alarms) l;
-            monitor = m .monitor;
-          };
-      answer = onAnswer (m .powered);
+      store = m .store;
+      job = m .job;
+      copy = m .copy;
+      powered = m .powered;
+      port = m .port;
+      thresholds = m .thresholds;
+      bus = m .bus;
+      alarms = afterLines accepted (m .alarms) l;
+      monitor = m .monitor;
     }
+
+unfoldable pub lines : Module → Lines → Outcome
+lines m l = record { next = linesBy m l (m .powered); answer = onAnswer (m .powered) }
 
 abbrev pub sampleBy : Module → Sample → Bool → Module
 sampleBy m s accepted =

@@ -1,0 +1,6 @@
+-- The proofs of what is guaranteed.
+pub mod StatusWord
+pub mod Transition
+pub mod Store
+pub mod Alarms
+pub mod TwoRuns

@@ -1,0 +1,271 @@
+-- The store is the image with the burn log applied, and only customer bytes are burned.
+-- Assumes nothing.
+use Prim.Native.Nat.{ℕ, suc, _+_, _/_, _%_, _≤_, _<_}
+use native.Mathlib.Omega.{arith}
+use mathlib.Core.Bool.{Bool, true, false, cond, not, _&&_}
+use mathlib.Core.List.{List, [], _∷_, _++_}
+use mathlib.Core.Logic.{_≢_}
+use mathlib.Core.Path.{_≡_, refl, sym, ap, ap₂, _∙_, subst}
+use lib.Dec.{eqb, leb, ltb}
+use lib.ListN.{length, getD, set, take, length-set}
+use lib.Seq.{getD-set-other, take-set-le}
+use borrow.Author.Tests.{leb-true, leb-false, ltb-true, le-leb}
+use Rattle.words.specs.Words.{bit}
+use Rattle.registers.specs.declared.Register.{Register}
+use Rattle.registers.specs.declared.Register.the-variants as register
+use Rattle.nvr.specs.Command.{keptBits, commandOf}
+use Rattle.nvr.specs.declared.command.Command.{Command}
+use Rattle.nvr.specs.declared.command.Command.the-variants as command
+use Rattle.jobs.specs.Job as job
+use Rattle.jobs.specs.Job.{workOf, afterWork}
+use Rattle.jobs.specs.declared.Job.{Job as ModuleJob}
+use Rattle.jobs.specs.declared.bytes.Cut.{Cut}
+use Rattle.jobs.specs.declared.bytes.Cut.the-variants.{Clean, Struck}
+use Rattle.xenpak.specs.Calls.{step, run}
+use Rattle.xenpak.specs.declared.answers.Call.{Call}
+use Rattle.xenpak.specs.declared.Module.{Module}
+use Rattle.guarantees.specs.Reference.{Job, none, load, burn, Reference, withStore, withCopy, withAddress, advanced, tickRef, cutRef, struckStore, customerOffset, commandJob, commanded, readRef, incremented, stepRef}
+use Rattle.guarantees.specs.BurnLog.{Entry, tickLog, cutLog, stepLog, burnLog, applied}
+use Rattle.guarantees.specs.History.{Event}
+use Rattle.guarantees.proofs.StatusWord.{kept-masked, idle, done, failed, Ended}
+use Rattle.guarantees.proofs.Transition.{jobRef, referenceOf, BurnSound, JobSound, Transition, unchanged, powering, cutting, resetting, ticking, lining, sampling, addressing, commanding, writing, controlling, reading, transition, new-job, step-ref, Fixed, fixedOf, step-fixed}
+
+-- ---- every job is sound
+customer-low : (o : ℕ) → customerOffset o ≡ true → 119 ≤ o
+customer-low o t = go (leb 119 o) refl t
+  where
+    go : (b : Bool) → leb 119 o ≡ b → (b && leb o 166) ≡ true → 119 ≤ o
+    go true p t = leb-true 119 o p
+    go false p t = absurd (let z : _≡_ {A = ℕ} 0 1 = cc in omega arith)
+
+customer-high : (o : ℕ) → customerOffset o ≡ true → o ≤ 166
+customer-high o t = go (leb 119 o) t
+  where
+    go : (b : Bool) → (b && leb o 166) ≡ true → o ≤ 166
+    go true t = leb-true o 166 t
+    go false t = absurd (let z : _≡_ {A = ℕ} 0 1 = cc in omega arith)
+
+customer : (o : ℕ) → 119 ≤ o → o ≤ 166 → customerOffset o ≡ true
+customer o h k = rw (le-leb 119 o h, le-leb o 166 k)
+
+cond-all : {A : Type 0} (P : A → Type 0) (b : Bool) {x y : A} → (b ≡ true → P x) → (b ≡ false → P y) → P (cond b x y)
+cond-all P true p q = p refl
+cond-all P false p q = q refl
+
+command-burns : (v : ℕ) → BurnSound (commandJob v)
+unfolding commandJob
+command-burns v =
+    let o = v / 256 in
+    cond-all BurnSound (eqb (v % 4) 3)
+    (λ _. cond-all BurnSound (bit 5 v) (λ _. omega arith) (λ _. tt))
+    (λ _. cond-all BurnSound (eqb (v % 4) 2)
+    (λ _. cond-all BurnSound (bit 5 v)
+    (λ _. cond-all BurnSound (customerOffset o) (λ t. (customer-low o t, omega arith, customer-high o t)) (λ _. tt))
+    (λ _. tt))
+    (λ _. tt))
+
+command-ended : (c : Command) (w : ℕ) → Ended (job.commandJob c w .ended)
+command-ended command.LoadAll w = idle
+command-ended (command.LoadByte offset) w = idle
+command-ended command.BurnCustomer w = idle
+command-ended (command.BurnByte offset) w = idle
+command-ended command.Failed w = failed
+
+command-kept : (c : Command) (w : ℕ) → job.commandJob c w .kept ≡ w
+command-kept command.LoadAll w = refl
+command-kept (command.LoadByte offset) w = refl
+command-kept command.BurnCustomer w = refl
+command-kept (command.BurnByte offset) w = refl
+command-kept command.Failed w = refl
+
+command-sound : (v : ℕ) → JobSound (job.jobOf v)
+command-sound v =
+    record {
+      kept = rw (command-kept (commandOf v) (keptBits v)) (kept-masked v);
+      ended = command-ended (commandOf v) (keptBits v);
+      burns = subst BurnSound (sym (new-job v)) (command-burns v);
+    }
+
+tick-sound : (j : ModuleJob) → JobSound j → JobSound (afterWork j (workOf true j))
+tick-sound j h = go (eqb (j .kind) 0) (eqb (j .kind) 2) (ltb (j .due) (j .last)) refl refl refl
+  where
+    burning : eqb (j .kind) 0 ≡ false → eqb (j .kind) 2 ≡ true → (119 ≤ j .due) × (j .due ≤ j .last) × (j .last ≤ 166)
+    burning p q = rw (p, q) at (h .burns)
+
+    go : (b c d : Bool) → eqb (j .kind) 0 ≡ b → eqb (j .kind) 2 ≡ c → ltb (j .due) (j .last) ≡ d → JobSound (afterWork j (workOf true j))
+    go true c d p q r = rw p h
+    go false true true p q r =
+        let b = burning p q in
+        let n = ltb-true (j .due) (j .last) r in
+        rw (p, q, r) (record { kept = h .kept; ended = h .ended; burns = rw (p, q) (omega arith, omega arith, omega arith) })
+    go false true false p q r = rw (p, q, r) (record { kept = h .kept; ended = done; burns = tt })
+    go false false true p q r = rw (p, q, r) (record { kept = h .kept; ended = h .ended; burns = rw (p, q) tt })
+    go false false false p q r = rw (p, q, r) (record { kept = h .kept; ended = done; burns = tt })
+
+read-sound : (j : ModuleJob) → JobSound j → (r : Register) → JobSound (job.afterRead j r)
+read-sound j h register.PmaControl = h
+read-sound j h register.NvrControl = record { kept = h .kept; ended = idle; burns = h .burns }
+read-sound j h (register.Copy offset) = h
+read-sound j h (register.Customer offset) = h
+read-sound j h (register.Control i) = h
+read-sound j h (register.Status i) = h
+read-sound j h (register.Threshold k) = h
+read-sound j h (register.Sample quantity low) = h
+read-sound j h (register.Flags i) = h
+read-sound j h register.Unlisted = h
+
+pub no-job-sound : JobSound job.noJob
+no-job-sound = record { kept = refl; ended = idle; burns = tt }
+
+first-sound : JobSound job.firstLoad
+first-sound = record { kept = refl; ended = idle; burns = tt }
+
+to-sound : {m n : Module} {r : Reference} {l : List Entry} {e : Event} → Transition m n r l e → JobSound (m .job) → JobSound (n .job)
+to-sound (unchanged p) h = subst (λ (x : Module). JobSound (x .job)) (sym p) h
+to-sound powering h = first-sound
+to-sound (cutting cut) h = h
+to-sound (resetting on) h = first-sound
+to-sound {m} ticking h = tick-sound (m .job) h
+to-sound (lining l) h = h
+to-sound (sampling s) h = h
+to-sound (addressing a) h = h
+to-sound (commanding v) h = command-sound v
+to-sound (writing offset v) h = h
+to-sound (controlling i v) h = h
+to-sound {m} (reading r increment) h = read-sound (m .job) h r
+
+pub step-sound : (m : Module) → JobSound (m .job) → (c : Call) → JobSound (step m c .next .job)
+step-sound m h c = to-sound (transition m h c) h
+
+-- ---- the burn log
+advanced-store : (more : Bool) (next : Job) (r : Reference) → advanced more next r .store ≡ r .store
+advanced-store true next r = refl
+advanced-store false next r = refl
+
+tick-store : (r : Reference) (j : Job) → tickRef r j .store ≡ applied (tickLog (r .copy) j) (r .store)
+unfolding tickRef applied
+tick-store r none = refl
+tick-store r (load due last) = advanced-store (ltb due last) (load (due + 1) last) (withCopy (set (r .copy) due (getD (r .store) due 0)) r)
+tick-store r (burn due last) = advanced-store (ltb due last) (burn (due + 1) last) (withStore (set (r .store) due (getD (r .copy) due 0)) r)
+
+cut-store : (s : List ℕ) (j : Job) (cut : Cut) → struckStore s j cut ≡ applied (cutLog j cut) s
+unfolding applied
+cut-store s none cut = refl
+cut-store s (load due last) cut = refl
+cut-store s (burn due last) Clean = refl
+cut-store s (burn due last) (Struck byte) = refl
+
+read-store : (r : Reference) (x : Register) → readRef r x .store ≡ r .store
+unfolding readRef
+read-store r register.PmaControl = refl
+read-store r register.NvrControl = refl
+read-store r (register.Copy offset) = refl
+read-store r (register.Customer offset) = refl
+read-store r (register.Control i) = refl
+read-store r (register.Status i) = refl
+read-store r (register.Threshold k) = refl
+read-store r (register.Sample quantity low) = refl
+read-store r (register.Flags i) = refl
+read-store r register.Unlisted = refl
+
+reads-store : (r : Reference) (x : Register) (a : ℕ) (increment : Bool) → cond increment (withAddress a (readRef r x)) (readRef r x) .store ≡ r .store
+reads-store r x a true = read-store r x
+reads-store r x a false = read-store r x
+
+to-store : {m n : Module} {r : Reference} {l : List Entry} {e : Event} → Transition m n r l e → r .store ≡ applied l (m .store)
+unfolding applied cutRef commanded
+to-store (unchanged p) = refl
+to-store powering = refl
+to-store {m} (cutting cut) = cut-store (m .store) (jobRef (m .job)) cut
+to-store (resetting on) = refl
+to-store {m} ticking = tick-store (referenceOf m) (jobRef (m .job))
+to-store (lining l) = refl
+to-store (sampling s) = refl
+to-store (addressing a) = refl
+to-store (commanding v) = refl
+to-store (writing offset v) = refl
+to-store (controlling i v) = refl
+to-store {m} (reading r increment) = reads-store (referenceOf m) r (incremented (m .bus .address)) increment
+
+applied-append : (l k : List Entry) (s : List ℕ) → applied (l ++ k) s ≡ applied k (applied l s)
+unfolding applied
+applied-append [] k s = refl
+applied-append (e ∷ l) k s = applied-append l k (set s (e .offset) (e .byte))
+
+pub run-store : (m : Module) → JobSound (m .job) → (cs : List Call)
+    → run m cs .store ≡ applied (burnLog (m .port) (referenceOf m) cs) (m .store)
+unfolding run burnLog applied
+run-store m h [] = refl
+run-store m h (c ∷ cs) =
+    let n = step m c .next in
+    run-store n (step-sound m h c) cs
+    ∙ ap (λ (f : Fixed). applied (burnLog (f .port) (referenceOf n) cs) (n .store)) (step-fixed m h c)
+    ∙ ap (λ (r : Reference). applied (burnLog (m .port) r cs) (r .store)) (step-ref m h c)
+    ∙ ap (applied (burnLog (m .port) (stepRef (m .port) (referenceOf m) c) cs)) (to-store (transition m h c))
+    ∙ sym (applied-append (stepLog (referenceOf m) c) (burnLog (m .port) (stepRef (m .port) (referenceOf m) c) cs) (m .store))
+
+-- ---- its entries are customer bytes
+abbrev pub AllCustomer : List Entry → Type 0
+AllCustomer [] = Unit {0}
+AllCustomer (e ∷ l) = (customerOffset (e .offset) ≡ true) × AllCustomer l
+
+all-append : (l k : List Entry) → AllCustomer l → AllCustomer k → AllCustomer (l ++ k)
+all-append [] k x y = y
+all-append (e ∷ l) k x y = (x .0, all-append l k (x .1) y)
+
+tick-entries : (copy : List ℕ) (j : Job) → BurnSound j → AllCustomer (tickLog copy j)
+tick-entries copy none h = tt
+tick-entries copy (load due last) h = tt
+tick-entries copy (burn due last) h = (customer due (omega arith) (omega arith), tt)
+
+cut-entries : (j : Job) (cut : Cut) → BurnSound j → AllCustomer (cutLog j cut)
+cut-entries none cut h = tt
+cut-entries (load due last) cut h = tt
+cut-entries (burn due last) Clean h = tt
+cut-entries (burn due last) (Struck byte) h = (customer due (omega arith) (omega arith), tt)
+
+to-entries : {m n : Module} {r : Reference} {l : List Entry} {e : Event} → Transition m n r l e → JobSound (m .job) → AllCustomer l
+to-entries (unchanged p) h = tt
+to-entries powering h = tt
+to-entries {m} (cutting cut) h = cut-entries (jobRef (m .job)) cut (h .burns)
+to-entries (resetting on) h = tt
+to-entries {m} ticking h = tick-entries (m .copy) (jobRef (m .job)) (h .burns)
+to-entries (lining l) h = tt
+to-entries (sampling s) h = tt
+to-entries (addressing a) h = tt
+to-entries (commanding v) h = tt
+to-entries (writing offset v) h = tt
+to-entries (controlling i v) h = tt
+to-entries (reading r increment) h = tt
+
+pub log-customer : (m : Module) → JobSound (m .job) → (cs : List Call) → AllCustomer (burnLog (m .port) (referenceOf m) cs)
+unfolding burnLog
+log-customer m h [] = tt
+log-customer m h (c ∷ cs) =
+    let n = step m c .next in
+    let r = stepRef (m .port) (referenceOf m) c in
+    all-append (stepLog (referenceOf m) c) (burnLog (m .port) r cs) (to-entries (transition m h c) h)
+    (subst (λ (f : Fixed). AllCustomer (burnLog (f .port) r cs)) (step-fixed m h c)
+    (subst (λ (x : Reference). AllCustomer (burnLog (n .port) x cs)) (step-ref m h c) (log-customer n (step-sound m h c) cs)))
+
+-- ---- what such a log leaves
+pub applied-length : (l : List Entry) (s : List ℕ) → length (applied l s) ≡ length s
+unfolding applied
+applied-length [] s = refl
+applied-length (e ∷ l) s = applied-length l (set s (e .offset) (e .byte)) ∙ length-set s (e .offset) (e .byte)
+
+pub applied-elsewhere : (l : List Entry) (s : List ℕ) → AllCustomer l → (i : ℕ) → customerOffset i ≡ false → getD (applied l s) i 0 ≡ getD s i 0
+unfolding applied
+applied-elsewhere [] s h i f = refl
+applied-elsewhere (e ∷ l) s h i f =
+    applied-elsewhere l (set s (e .offset) (e .byte)) (h .1) i f ∙ getD-set-other s (e .offset) i (e .byte) 0 apart
+  where
+    apart : i ≢ e .offset
+    apart p = let z : true ≡ false = sym (h .0) ∙ ap customerOffset (sym p) ∙ f in absurd (let y : _≡_ {A = ℕ} 0 1 = cc in omega arith)
+
+-- the bytes under the checksum
+pub applied-front : (l : List Entry) (s : List ℕ) → AllCustomer l → take 119 (applied l s) ≡ take 119 s
+unfolding applied
+applied-front [] s h = refl
+applied-front (e ∷ l) s h =
+    applied-front l (set s (e .offset) (e .byte)) (h .1) ∙ take-set-le 119 s (e .offset) (e .byte) (customer-low (e .offset) (h .0))

@@ -1,0 +1,55 @@
+-- The burn log (document 01: the burn ledger): offset and byte each time a tick or a struck cut puts a byte into the
+-- reference model's store, in order; and its application to an image.
+-- Assumes nothing.
+use Prim.Native.Nat.{ℕ}
+use mathlib.Core.Bool.{cond}
+use mathlib.Core.List.{List, [], _∷_, _++_}
+use lib.ListN.{getD, set}
+use Rattle.jobs.specs.declared.bytes.Cut.{Cut}
+use Rattle.jobs.specs.declared.bytes.Cut.the-variants.{Clean, Struck}
+use Rattle.xenpak.specs.declared.answers.Call.{Call}
+use Rattle.xenpak.specs.declared.answers.Call.the-variants as call
+use Rattle.guarantees.specs.Reference.{Job, none, load, burn, Reference, stepRef}
+
+pub record Entry : Type 0 where
+  pub offset : ℕ
+  pub byte : ℕ
+
+abbrev pub entry : ℕ → ℕ → List Entry
+entry o b = record { offset = o; byte = b } ∷ []
+
+-- a tick of a burn
+abbrev pub tickLog : List ℕ → Job → List Entry
+tickLog copy none = []
+tickLog copy (load due last) = []
+tickLog copy (burn due last) = entry due (getD copy due 0)
+
+-- a cut struck while a burn is due
+abbrev pub cutLog : Job → Cut → List Entry
+cutLog none cut = []
+cutLog (load due last) cut = []
+cutLog (burn due last) Clean = []
+cutLog (burn due last) (Struck byte) = entry due byte
+
+unfoldable pub onLog : Reference → Call → List Entry
+onLog r call.PowerOn = []
+onLog r (call.Cut cut) = cutLog (r .job) cut
+onLog r call.ResetPin = []
+onLog r (call.Frame word) = []
+onLog r call.Tick = tickLog (r .copy) (r .job)
+onLog r (call.Lines l) = []
+onLog r (call.Sample s) = []
+
+-- the entries of a call; one that is refused has none
+unfoldable pub stepLog : Reference → Call → List Entry
+stepLog r c = cond (r .powered) (onLog r c) []
+
+-- the entries of a list of calls
+unfoldable pub burnLog : ℕ → Reference → List Call → List Entry
+burnLog port r [] = []
+burnLog port r (c ∷ cs) = stepLog r c ++ burnLog port (stepRef port r c) cs
+
+-- writes the entries into an image, in order
+unfoldable pub applied : List Entry → List ℕ → List ℕ
+applied [] image = image
+applied (e ∷ es) image = applied es (set image (e .offset) (e .byte))

@@ -1,0 +1,121 @@
+-- What is guaranteed: demand 3 as one statement about whole lists, and what goes beyond it.
+-- Assumes nothing.
+use Prim.Native.Nat.{ℕ}
+use mathlib.Core.Bool.{Bool, true, false, cond}
+use mathlib.Core.List.{List, [], _∷_, _++_}
+use mathlib.Core.Logic.{_≢_}
+use mathlib.Core.Path.{_≡_}
+use lib.ListN.{length, getD, replicate}
+use Rattle.words.specs.Words.{bit}
+use Rattle.registers.specs.declared.Register.the-variants.{Status, Flags}
+use Rattle.jobs.specs.declared.bytes.Cut.the-variants.{Clean}
+use Rattle.lasi.specs.Alarms.{alarmLine}
+use Rattle.xenpak.specs.Answers.{Said, said}
+use Rattle.xenpak.specs.Making.{make}
+use Rattle.xenpak.specs.Frame.{valueAt}
+use Rattle.xenpak.specs.Calls.{step, run}
+use Rattle.xenpak.specs.Settling.{settle}
+use Rattle.xenpak.specs.declared.answers.Answer.the-variants.{Accepted}
+use Rattle.xenpak.specs.declared.answers.FrameAnswer.the-variants.{Silent}
+use Rattle.xenpak.specs.declared.answers.SettleAnswer.the-variants.{Ticks}
+use Rattle.xenpak.specs.declared.answers.CallAnswer.the-variants.{Frame}
+use Rattle.xenpak.specs.declared.answers.Call.{Call}
+use Rattle.xenpak.specs.declared.answers.Call.the-variants.{PowerOn, Cut, Tick}
+use Rattle.xenpak.specs.declared.Module.{Module}
+use Rattle.xenpak.specs.declared.Outcome.{Outcome}
+use Rattle.guarantees.specs.Reference.{Reference, initial, runRef, stepRef, customerOffset}
+use Rattle.guarantees.specs.BurnLog.{burnLog, applied}
+use Rattle.guarantees.specs.History.{Event, events, stepEvent, stands, rxAlarmBit, txAlarmBit, lasiBit, txAlarms, rxAlarms, txWarnings, rxWarnings, lineByHistory}
+
+-- ---- what can be seen of a run
+-- the answer to each call
+unfoldable pub answers : Module → List Call → List Said
+answers m [] = []
+answers m (c ∷ cs) = said (step m c .answer) ∷ answers (step m c .next) cs
+
+-- what can be read from the record at any time
+pub record Seen : Type 0 where
+  pub line : Bool
+  pub counter : ℕ
+  pub store : List ℕ
+
+abbrev pub seen : Module → Seen
+seen m = record { line = alarmLine (m .powered) (m .alarms); counter = m .bus .counter; store = m .store }
+
+-- at the start and after each call
+unfoldable pub sights : Module → List Call → List Seen
+sights m [] = seen m ∷ []
+sights m (c ∷ cs) = seen m ∷ sights (step m c .next) cs
+
+-- the alarm line at the start and after each call
+unfoldable pub alarmLines : Module → List Call → List Bool
+alarmLines m [] = alarmLine (m .powered) (m .alarms) ∷ []
+alarmLines m (c ∷ cs) = alarmLine (m .powered) (m .alarms) ∷ alarmLines (step m c .next) cs
+
+-- the same by the history rule
+unfoldable pub linesByHistory : ℕ → List ℕ → Reference → List Event → List Call → List Bool
+linesByHistory port t r h [] = lineByHistory t r h ∷ []
+linesByHistory port t r h (c ∷ cs) = lineByHistory t r h ∷ linesByHistory port t (stepRef port r c) (stepEvent port r c ∷ h) cs
+
+-- ---- demand 3
+abbrev pub accepted : Module → Outcome
+accepted m = record { next = m; answer = Accepted }
+
+-- a clean cut if it is powered, then power-on
+abbrev pub powerCycle : Module → List Call
+powerCycle m = cond (m .powered) (Cut Clean ∷ PowerOn ∷ []) (PowerOn ∷ [])
+
+-- a was made from the image and lived through the calls
+pub record TwoRuns (port : ℕ) (image thresholds : List ℕ) (a : Module) (calls : List Call) : Type 0 where
+  -- its store is its image with its burn log applied, and differs from that image in customer bytes alone
+  pub store : run a calls .store ≡ applied (burnLog port (initial image) calls) image
+  pub size : length (run a calls .store) ≡ 256
+  pub customer : (i : ℕ) → customerOffset i ≡ false → getD (run a calls .store) i 0 ≡ getD image i 0
+  -- b is made from the image with that log applied, the same port and thresholds
+  pub b : Module
+  pub made : make port (applied (burnLog port (initial image) calls) image) thresholds ≡ accepted b
+  -- a clean cut of a if it is powered, then power-on of both: the records are equal
+  pub same : run a (calls ++ powerCycle (run a calls)) ≡ run b (PowerOn ∷ [])
+  -- then every later list gets equal answers, and at its start and after each call equal line, counter and store
+  pub answered : (later : List Call) → answers (run a (calls ++ powerCycle (run a calls))) later ≡ answers (run b (PowerOn ∷ [])) later
+  pub seen-alike : (later : List Call) → sights (run a (calls ++ powerCycle (run a calls))) later ≡ sights (run b (PowerOn ∷ [])) later
+  -- in either run, after making and after every call, the line is the history rule's
+  pub a-line : (later : List Call)
+      → alarmLines a (calls ++ (powerCycle (run a calls) ++ later))
+      ≡ linesByHistory port thresholds (initial image) [] (calls ++ (powerCycle (run a calls) ++ later))
+  pub b-line : (later : List Call)
+      → alarmLines b (PowerOn ∷ later)
+      ≡ linesByHistory port thresholds (initial (applied (burnLog port (initial image) calls) image)) [] (PowerOn ∷ later)
+
+-- for every accepted making and every list of calls
+abbrev pub Demand3 : Type 0
+Demand3 = (port : ℕ) (image thresholds : List ℕ) (a : Module) (calls : List Call)
+    → make port image thresholds ≡ accepted a → TwoRuns port image thresholds a calls
+
+-- ---- beyond it
+-- the alarm registers of a powered module have the bits that stand
+pub record AlarmRegisters (t : List ℕ) (m : Module) (r : Reference) (h : List Event) : Type 0 where
+  pub at9003 : (i : ℕ) → bit i (valueAt m (Status 0)) ≡ rxAlarmBit t r h i
+  pub at9004 : (i : ℕ) → bit i (valueAt m (Status 1)) ≡ txAlarmBit t r h i
+  pub at9005 : (i : ℕ) → bit i (valueAt m (Status 2)) ≡ lasiBit t r h i
+  pub ata070 : (i : ℕ) → bit i (valueAt m (Flags 0)) ≡ stands (r .powered) (txAlarms t) h i
+  pub ata071 : (i : ℕ) → bit i (valueAt m (Flags 1)) ≡ stands (r .powered) (rxAlarms t) h i
+  pub ata074 : (i : ℕ) → bit i (valueAt m (Flags 2)) ≡ stands (r .powered) (txWarnings t) h i
+  pub ata075 : (i : ℕ) → bit i (valueAt m (Flags 3)) ≡ stands (r .powered) (rxWarnings t) h i
+
+-- after every list of calls, so at every point of every list
+abbrev pub AlarmsByHistory : Type 0
+AlarmsByHistory = (port : ℕ) (image thresholds : List ℕ) (a : Module) (calls : List Call)
+    → make port image thresholds ≡ accepted a → run a calls .powered ≡ true
+    → AlarmRegisters thresholds (run a calls) (runRef port (initial image) calls) (events port (initial image) [] calls)
+
+-- demand 1: any refused call, and a silent frame, leaves the record, whatever it holds
+abbrev pub RefusedUnchanged : Type 0
+RefusedUnchanged = (m : Module) (c : Call) → said (step m c .answer) .refusal ≢ 0 → step m c .next ≡ m
+
+abbrev pub SilentUnchanged : Type 0
+SilentUnchanged = (m : Module) (c : Call) → step m c .answer ≡ Frame Silent → step m c .next ≡ m
+
+-- settling stands for its count of ticks
+abbrev pub SettlingIsTicks : Type 0
+SettlingIsTicks = (m : Module) (budget count : ℕ) → settle m budget .answer ≡ Ticks count → settle m budget .next ≡ run m (replicate count Tick)
