@@ -4,3 +4,6 @@ pub mod Transition
 pub mod Store
 pub mod Alarms
 pub mod TwoRuns
+pub mod Unchanged
+pub mod Settling
+pub mod Cases

@@ -151,10 +151,10 @@ module _ (m : Module) where
   when true n f t p = t p
   when false n f t p = unchanged (f p)
 
-  on-again : m .powered ≡ true → calls.started false (m .alarms) (withPower true (m .store) m) ≡ m
+  pub on-again : m .powered ≡ true → calls.started false (m .alarms) (withPower true (m .store) m) ≡ m
   on-again on = rw on
 
-  cut-off : (cut : Cut) → m .powered ≡ false → withPower false (bytes.struckStore (m .store) (workOf false (m .job)) cut) m ≡ m
+  pub cut-off : (cut : Cut) → m .powered ≡ false → withPower false (bytes.struckStore (m .store) (workOf false (m .job)) cut) m ≡ m
   cut-off cut off = rw off
 
 pub transition : (m : Module) → JobSound (m .job) → (c : Call)

@@ -16,7 +16,7 @@ use Rattle.xenpak.specs.Frame.{valueAt}
 use Rattle.xenpak.specs.Calls.{step, run}
 use Rattle.xenpak.specs.Settling.{settle}
 use Rattle.xenpak.specs.declared.answers.Answer.the-variants.{Accepted}
-use Rattle.xenpak.specs.declared.answers.FrameAnswer.the-variants.{Silent}
+use Rattle.xenpak.specs.declared.answers.FrameAnswer.the-variants.{Silent, Dropped}
 use Rattle.xenpak.specs.declared.answers.SettleAnswer.the-variants.{Ticks}
 use Rattle.xenpak.specs.declared.answers.CallAnswer.the-variants.{Frame}
 use Rattle.xenpak.specs.declared.answers.Call.{Call}
@@ -109,12 +109,15 @@ AlarmsByHistory = (port : ℕ) (image thresholds : List ℕ) (a : Module) (calls
     → make port image thresholds ≡ accepted a → run a calls .powered ≡ true
     → AlarmRegisters thresholds (run a calls) (runRef port (initial image) calls) (events port (initial image) [] calls)
 
--- demand 1: any refused call, and a silent frame, leaves the record, whatever it holds
+-- demand 1: any refused call leaves the record, whatever it holds; so does a frame that is silent or dropped
 abbrev pub RefusedUnchanged : Type 0
 RefusedUnchanged = (m : Module) (c : Call) → said (step m c .answer) .refusal ≢ 0 → step m c .next ≡ m
 
 abbrev pub SilentUnchanged : Type 0
 SilentUnchanged = (m : Module) (c : Call) → step m c .answer ≡ Frame Silent → step m c .next ≡ m
+
+abbrev pub DroppedUnchanged : Type 0
+DroppedUnchanged = (m : Module) (c : Call) → step m c .answer ≡ Frame Dropped → step m c .next ≡ m
 
 -- settling stands for its count of ticks
 abbrev pub SettlingIsTicks : Type 0

@@ -3,3 +3,4 @@ pub mod Reference
 pub mod BurnLog
 pub mod History
 pub mod Guarantees
+pub mod Cases

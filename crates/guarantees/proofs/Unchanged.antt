@@ -1,0 +1,115 @@
+-- A refused call, and a frame that is silent or dropped, leaves the record, for every record and call.
+-- Assumes nothing.
+use Prim.Native.Nat.{ℕ}
+use native.Mathlib.Omega.{arith}
+use mathlib.Core.Bool.{Bool, true, false, _&&_, not}
+use mathlib.Core.Logic.{_≢_}
+use mathlib.Core.Path.{_≡_, refl, sym, ap, _∙_}
+use Rattle.action.specs.Action.{actionOf}
+use Rattle.action.specs.declared.Action.{Action}
+use Rattle.action.specs.declared.Action.the-variants as action
+use Rattle.jobs.specs.Job.{isBusy, workOf}
+use Rattle.jobs.specs.declared.Work.{Work}
+use Rattle.jobs.specs.declared.Work.the-variants as work
+use Rattle.dom.specs.Codes.{acceptable}
+use Rattle.jobs.specs.Bytes.{struckStore}
+use Rattle.lasi.specs.Alarms.{poweredAlarms, resetAlarms}
+use Rattle.xenpak.specs.Answers.{said}
+use Rattle.xenpak.specs.Frame.{frame, moduleAfter, answerOf}
+use Rattle.xenpak.specs.Calls as calls
+use Rattle.xenpak.specs.Calls.{step, withPower, tickBy, sampleBy, onAnswer, offAnswer, sampleAnswer, tickAnswer}
+use Rattle.xenpak.specs.declared.answers.Refusal.{Refusal}
+use Rattle.xenpak.specs.declared.answers.Answer.the-variants as plain
+use Rattle.xenpak.specs.declared.answers.FrameAnswer.the-variants as frame-answer
+use Rattle.xenpak.specs.declared.answers.TickAnswer.the-variants as tick-answer
+use Rattle.xenpak.specs.declared.answers.CallAnswer.{CallAnswer}
+use Rattle.xenpak.specs.declared.answers.CallAnswer.the-variants.{Plain, Frame, Tick}
+use Rattle.xenpak.specs.declared.answers.Call.{Call}
+use Rattle.xenpak.specs.declared.answers.Call.the-variants as call
+use Rattle.xenpak.specs.declared.Module.{Module}
+use Rattle.guarantees.specs.Guarantees.{RefusedUnchanged, SilentUnchanged, DroppedUnchanged}
+use Rattle.guarantees.proofs.Transition.{on-again, cut-off}
+
+-- the answers that leave the record
+abbrev leaves : CallAnswer → Bool
+leaves (Plain plain.Accepted) = false
+leaves (Plain (plain.Refused why)) = true
+leaves (Frame frame-answer.Silent) = true
+leaves (Frame frame-answer.Set) = false
+leaves (Frame frame-answer.Written) = false
+leaves (Frame frame-answer.Dropped) = true
+leaves (Frame (frame-answer.Data value)) = false
+leaves (Frame (frame-answer.Refused why)) = true
+leaves (Tick tick-answer.Nothing) = false
+leaves (Tick (tick-answer.Loaded offset byte)) = false
+leaves (Tick (tick-answer.Burned offset byte)) = false
+leaves (Tick (tick-answer.Refused why)) = true
+
+not-so : {A : Type 0} → false ≡ true → A
+not-so e = absurd (let z : _≡_ {A = ℕ} 0 1 = cc in omega arith)
+
+by-frame : (m : Module) (a : Action) (value : ℕ) → leaves (Frame (answerOf a value)) ≡ true → moduleAfter m a ≡ m
+by-frame m action.Refused value e = refl
+by-frame m action.Silent value e = refl
+by-frame m (action.SetAddress a) value e = not-so e
+by-frame m action.Dropped value e = refl
+by-frame m action.Reset value e = not-so e
+by-frame m (action.Command word) value e = not-so e
+by-frame m (action.Customer offset byte) value e = not-so e
+by-frame m (action.Control i word) value e = not-so e
+by-frame m (action.Read r increment) value e = not-so e
+
+by-tick : (m : Module) (w : Work) (byte : ℕ) → leaves (Tick (tickAnswer w byte)) ≡ true → tickBy m w .next ≡ m
+by-tick m work.Refused byte e = refl
+by-tick m work.Nothing byte e = not-so e
+by-tick m (work.Load offset) byte e = not-so e
+by-tick m (work.Burn offset) byte e = not-so e
+
+-- a call that needs power
+by-power : (m : Module) (n : Bool → Module) → (m .powered ≡ false → n false ≡ m) → (b : Bool) → m .powered ≡ b → leaves (Plain (onAnswer b)) ≡ true → n b ≡ m
+by-power m n f true p e = not-so e
+by-power m n f false p e = f p
+
+unchanged : (m : Module) (c : Call) → leaves (step m c .answer) ≡ true → step m c .next ≡ m
+unfolding step calls.powerOn calls.powerCut calls.resetPin calls.tick calls.lines calls.sample frame
+unchanged m call.PowerOn e = go (m .powered) refl e
+  where
+    go : (b : Bool) → m .powered ≡ b → leaves (Plain (offAnswer b)) ≡ true
+        → calls.started (not b) (poweredAlarms (not b) (m .alarms)) (withPower true (m .store) m) ≡ m
+    go true p e = on-again m p
+    go false p e = not-so e
+unchanged m (call.Cut cut) e =
+    by-power m (λ b. withPower false (struckStore (m .store) (workOf b (m .job)) cut) m) (cut-off m cut) (m .powered) refl e
+unchanged m call.ResetPin e = by-power m (λ b. calls.started b (resetAlarms b (m .alarms)) m) (λ _. refl) (m .powered) refl e
+unchanged m (call.Frame word) e = by-frame m (actionOf (m .powered) (m .port) (m .bus .address) (isBusy (m .job)) word) _ e
+unchanged m call.Tick e = by-tick m (workOf (m .powered) (m .job)) _ e
+unchanged m (call.Lines l) e = by-power m (calls.linesBy m l) (λ _. refl) (m .powered) refl e
+unchanged m (call.Sample s) e = go (m .powered) (acceptable (s .temperature)) e
+  where
+    go : (b right : Bool) → leaves (Plain (sampleAnswer b right)) ≡ true → sampleBy m s (b && right) ≡ m
+    go true true e = not-so e
+    go true false e = refl
+    go false right e = refl
+
+refused-leaves : (a : CallAnswer) → said a .refusal ≢ 0 → leaves a ≡ true
+refused-leaves (Plain plain.Accepted) f = absurd (f refl)
+refused-leaves (Plain (plain.Refused why)) f = refl
+refused-leaves (Frame frame-answer.Silent) f = refl
+refused-leaves (Frame frame-answer.Set) f = absurd (f refl)
+refused-leaves (Frame frame-answer.Written) f = absurd (f refl)
+refused-leaves (Frame frame-answer.Dropped) f = refl
+refused-leaves (Frame (frame-answer.Data value)) f = absurd (f refl)
+refused-leaves (Frame (frame-answer.Refused why)) f = refl
+refused-leaves (Tick tick-answer.Nothing) f = absurd (f refl)
+refused-leaves (Tick (tick-answer.Loaded offset byte)) f = absurd (f refl)
+refused-leaves (Tick (tick-answer.Burned offset byte)) f = absurd (f refl)
+refused-leaves (Tick (tick-answer.Refused why)) f = refl
+
+pub refused-unchanged : RefusedUnchanged
+refused-unchanged m c f = unchanged m c (refused-leaves (step m c .answer) f)
+
+pub silent-unchanged : SilentUnchanged
+silent-unchanged m c e = unchanged m c (ap leaves e)
+
+pub dropped-unchanged : DroppedUnchanged
+dropped-unchanged m c e = unchanged m c (ap leaves e)
