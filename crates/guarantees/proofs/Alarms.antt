@@ -15,11 +15,11 @@ use Rattle.registers.specs.declared.Register.{Register}
 use Rattle.registers.specs.declared.Register.the-variants as register
 use Rattle.dom.specs.Thresholds.{thresholdsOf}
 use Rattle.flags.specs.Flags.{Side, alarm, warning, txBits, rxBits, flagsOf}
-use Rattle.lasi.specs.Latch.{noLatch, fed, cleared, latched}
+use Rattle.latch.specs.Latch.{noLatch, fed, cleared, latched}
 use Rattle.lasi.specs.Alarms as alarms
 use Rattle.lasi.specs.Alarms.{noAlarms, rxAlarm, txAlarm, lasiStatus, alarmLine}
-use Rattle.lasi.specs.declared.latch.Latch.{Latch}
-use Rattle.lasi.specs.declared.controls.Controls.{Controls}
+use Rattle.latch.specs.declared.Latch.{Latch}
+use Rattle.controls.specs.declared.Controls.{Controls}
 use Rattle.lasi.specs.declared.Alarms.{Alarms}
 use Rattle.xenpak.specs.Calls.{step, run}
 use Rattle.xenpak.specs.declared.answers.Call.{Call}

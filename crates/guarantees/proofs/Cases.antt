@@ -9,7 +9,7 @@ use Rattle.action.specs.Action.{actionOf}
 use Rattle.nvr.specs.Command.{commandOf}
 use Rattle.jobs.specs.Bytes.{zeros}
 use Rattle.flags.specs.Flags.{flagsOf}
-use Rattle.xenpak.specs.Making.{make}
+use Rattle.making.specs.Making.{make}
 use Rattle.xenpak.specs.Frame.{frame}
 use Rattle.xenpak.specs.Calls as calls
 use Rattle.xenpak.specs.Calls.{step}

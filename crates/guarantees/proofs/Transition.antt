@@ -36,8 +36,8 @@ use Rattle.dom.specs.Thresholds.{thresholdsOf}
 use Rattle.dom.specs.declared.Sample.{Sample}
 use Rattle.flags.specs.Flags.{flagsOf}
 use Rattle.lasi.specs.Alarms as alarms
-use Rattle.lasi.specs.Controls.{controlWritten}
-use Rattle.lasi.specs.declared.controls.Controls.{Controls}
+use Rattle.controls.specs.Controls.{controlWritten}
+use Rattle.controls.specs.declared.Controls.{Controls}
 use Rattle.lasi.specs.declared.Alarms.{Alarms}
 use Rattle.lasi.specs.declared.Lines.{Lines}
 use Rattle.xenpak.specs.Frame.{moduleAfter, frame}

@@ -16,7 +16,7 @@ use Rattle.jobs.specs.declared.Work.{Work}
 use Rattle.jobs.specs.declared.Work.the-variants as work
 use Rattle.jobs.specs.declared.bytes.Cut.the-variants.{Clean}
 use Rattle.dom.specs.Thresholds.{thresholdsOf, ordered}
-use Rattle.xenpak.specs.Making.{fresh, refused, judgedBy, make}
+use Rattle.making.specs.Making.{fresh, refused, judgedBy, make}
 use Rattle.xenpak.specs.Calls.{step, run, powerOn, powerCut}
 use Rattle.xenpak.specs.declared.answers.Refusal.{Refusal}
 use Rattle.xenpak.specs.declared.answers.Refusal.the-variants.{Port, ImageLength, ThresholdsLength, Checksum, ThresholdOrder}

@@ -9,7 +9,7 @@ use Rattle.jobs.specs.declared.bytes.Cut.the-variants.{Struck}
 use Rattle.dom.specs.Readout.{tenthsOf}
 use Rattle.dom.specs.declared.Sample.{Sample}
 use Rattle.lasi.specs.declared.Lines.{Lines}
-use Rattle.xenpak.specs.Making.{make}
+use Rattle.making.specs.Making.{make}
 use Rattle.xenpak.specs.Calls.{step}
 use Rattle.xenpak.specs.declared.answers.Answer.{Answer}
 use Rattle.xenpak.specs.declared.answers.Answer.the-variants as plain
@@ -132,7 +132,7 @@ table =
     ∷ row (loaded ++ address 0x807e ++ write 0x01aa ++ read) (0x00aa ∷ []) 0x807e image
     -- then 8000 gets 0023, 2 ticks, cut struck 55
     ∷ row (loaded ++ address 0x807e ++ write 0x01aa ++ address 0x8000 ++ write 0x0023 ++ ticks 2 ++ (call.Cut (Struck 0x55) ∷ [])) [] 0x8000
-      (set (set image 119 0xaa) 121 0x55)
+    (set (set image 119 0xaa) 121 0x55)
     -- temperature high alarm 4600: samples 4600, 4601, a read after each
     ∷ row (address 0xa070 ++ sample (pos 0x4600) 0 ++ read ++ sample (pos 0x4601) 0 ++ read) (0x0000 ∷ 0x0080 ∷ []) 0xa070 image
     -- temperature low alarm FB00: FAFF, fine sample, read twice

@@ -11,7 +11,7 @@ use Rattle.registers.specs.declared.Register.the-variants.{Status, Flags}
 use Rattle.jobs.specs.declared.bytes.Cut.the-variants.{Clean}
 use Rattle.lasi.specs.Alarms.{alarmLine}
 use Rattle.xenpak.specs.Answers.{Said, said}
-use Rattle.xenpak.specs.Making.{make}
+use Rattle.making.specs.Making.{make}
 use Rattle.xenpak.specs.Frame.{valueAt}
 use Rattle.xenpak.specs.Calls.{step, run}
 use Rattle.xenpak.specs.Settling.{settle}

@@ -11,10 +11,10 @@ use Rattle.registers.specs.declared.Register.the-variants as register
 use Rattle.action.specs.declared.Action.{Action}
 use Rattle.action.specs.declared.Action.the-variants as action
 use Rattle.flags.specs.declared.Flags.{Flags}
-use Rattle.lasi.specs.Latch.{noLatch, fed, cleared, latched}
-use Rattle.lasi.specs.Controls.{noControls, controlWritten}
-use Rattle.lasi.specs.declared.controls.Controls.{Controls}
-use Rattle.lasi.specs.declared.latch.Latch.{Latch}
+use Rattle.latch.specs.Latch.{noLatch, fed, cleared, latched}
+use Rattle.controls.specs.Controls.{noControls, controlWritten}
+use Rattle.controls.specs.declared.Controls.{Controls}
+use Rattle.latch.specs.declared.Latch.{Latch}
 use Rattle.lasi.specs.declared.Lines.{Lines}
 use Rattle.lasi.specs.declared.Alarms.{Alarms}
 

@@ -3,14 +3,10 @@ ghost use mathlib.Core.Path.{_≡_};
 ghost use mathlib.Core.List.{[], _∷_};
 ghost use Rattle.words.specs.Words.{ofBits};
 ghost use Rattle.lasi.specs.Alarms.{differ, noAlarms, rxAlarm, txAlarm, lasiStatus, statusAt, flagsAt, alarmLine, statusCleared, flagsCleared, afterRead, restarted, controlled, alarmsAfter, poweredAlarms, resetAlarms, linesTaken, afterLines, flagsTaken, afterSample};
-
-pub mod controls;
-pub mod latch;
-
-use crate::controls::Controls;
-use crate::latch::Latch;
 use action::Action;
+use controls::Controls;
 use flags::Flags;
+use latch::Latch;
 use registers::Register;
 use words::of_bits;
 use words::share;

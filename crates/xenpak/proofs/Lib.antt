@@ -1,3 +1,2 @@
 -- Laws that the proofs of `xenpak` and the crates above cite.
-pub mod Copying
 pub mod Settling

@@ -16,7 +16,7 @@ use Rattle.flags.specs.Flags.{flagsOf}
 use Rattle.lasi.specs.Alarms.{poweredAlarms, resetAlarms, afterLines, afterSample}
 use Rattle.lasi.specs.declared.Alarms.{Alarms}
 use Rattle.lasi.specs.declared.Lines.{Lines}
-use Rattle.xenpak.specs.Bus.{startedBus}
+use Rattle.bus.specs.Bus.{startedBus}
 use Rattle.xenpak.specs.Frame.{frame}
 use Rattle.xenpak.specs.declared.answers.Refusal.the-variants.{Temperature, PoweredOff, PoweredOn}
 use Rattle.xenpak.specs.declared.answers.Answer.{Answer}

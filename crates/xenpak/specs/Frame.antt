@@ -10,9 +10,9 @@ use Rattle.action.specs.declared.Action.the-variants as action
 use Rattle.jobs.specs.Job.{isBusy, wordOf, pmaWord, jobAfter}
 use Rattle.jobs.specs.Bytes.{writtenCopy}
 use Rattle.monitor.specs.Monitor.{valueOf, monitorAfter}
-use Rattle.lasi.specs.Controls.{controlAt}
+use Rattle.controls.specs.Controls.{controlAt}
 use Rattle.lasi.specs.Alarms.{statusAt, flagsAt, alarmsAfter}
-use Rattle.xenpak.specs.Bus.{busAfter}
+use Rattle.bus.specs.Bus.{busAfter}
 use Rattle.xenpak.specs.declared.answers.Refusal.the-variants.{PoweredOff}
 use Rattle.xenpak.specs.declared.answers.FrameAnswer.{FrameAnswer}
 use Rattle.xenpak.specs.declared.answers.FrameAnswer.the-variants.{Silent, Set, Written, Dropped, Data, Refused}

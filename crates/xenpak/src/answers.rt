@@ -1,7 +1,7 @@
 // The calls of the lists in demand 3, and what each call answers.
 use dom::Sample;
-use lasi::Lines;
 use jobs::bytes::Cut;
+use lasi::Lines;
 
 // Why a call is refused; `refusalNumber` in specs/ has document 01's number of each.
 pub enum Refusal {

@@ -9,8 +9,6 @@ ghost use Rattle.xenpak.specs.Calls.{onAnswer, offAnswer, sampleAnswer, 
 ghost use Rattle.xenpak.specs.Settling.{settled, settle};
 
 pub mod answers;
-pub mod bus;
-pub mod making;
 
 use crate::answers::Answer;
 use crate::answers::Call;
@@ -19,24 +17,24 @@ use crate::answers::FrameAnswer;
 use crate::answers::Refusal;
 use crate::answers::SettleAnswer;
 use crate::answers::TickAnswer;
-use crate::bus::Bus;
 use action::Action;
 use action::decide;
+use bus::Bus;
 use dom::Sample;
 use dom::acceptable;
-use monitor::Monitor;
 use dom::thresholds::thresholds_of;
 use flags::flags_of;
-use lasi::Alarms;
-use lasi::Lines;
+use jobs::Job;
+use jobs::Work;
 use jobs::bytes::Cut;
 use jobs::bytes::byte_at;
 use jobs::bytes::move_byte;
 use jobs::bytes::start_copy;
 use jobs::bytes::strike;
 use jobs::bytes::write_copy;
-use jobs::Job;
-use jobs::Work;
+use lasi::Alarms;
+use lasi::Lines;
+use monitor::Monitor;
 use registers::Register;
 
 #[repr(C)]

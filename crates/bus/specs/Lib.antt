@@ -1,0 +1,2 @@
+-- What the contracts of `bus` cite.
+pub mod Bus

@@ -1,0 +1,2 @@
+-- What the contracts of `controls` cite.
+pub mod Controls

@@ -1,0 +1,2 @@
+-- What the contracts of `latch` cite.
+pub mod Latch

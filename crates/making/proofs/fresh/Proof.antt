@@ -1,0 +1,17 @@
+-- `making::fresh` meets its contract.
+-- Assumes nothing.
+use Rattle.jobs.specs.Bytes.{zeros}
+use borrow.Author.Needs.{needs}
+use Rattle.making.proofs.fresh.Statement.{statement}
+use Rattle.making.proofs.fresh.Tie as tie
+
+pub fresh-spec : {M : Type 1} → statement M
+unfolding zeros
+fresh-spec =
+    tie.close
+    (tie.spec
+    (λ c κs. search needs)
+    (λ c κs. search needs)
+    (λ c κs. search needs)
+    (λ c κs. search needs)
+    (λ c. rw (c .none3 .ensures, c .before .none2 .ensures, c .before .before .zero .ensures, c .before .before .before .none .ensures)))
