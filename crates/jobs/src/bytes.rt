@@ -1,7 +1,7 @@
 // Store and copy: the byte that a tick moves, the byte that a cut strikes, and what writes and starts leave in the copy.
 ghost use mathlib.Core.Path.{_≡_};
 ghost use lib.ListN.{getD};
-ghost use Rattle.jobs.specs.Bytes.{Moved, struckStore, writtenCopy, startedCopy};
+ghost use Rattle.jobs.specs.Bytes.{Moved, struckStore, zeros, writtenCopy, startedCopy};
 use crate::Work;
 use action::Action;
 
@@ -50,6 +50,13 @@ pub fn strike(store: &mut [u8; 256], work: Work, cut: Cut)
     }
 }
 
+// The copy begins as 256 zeros.
+fn zero(copy: &mut [u8; 256])
+    ensures { λ _. ⌜ now (copy .exit) ≡ zeros 256 ⌝ }
+{
+    *copy = [0; 256];
+}
+
 // What a frame leaves in the copy.
 pub fn write_copy(copy: &mut [u8; 256], action: Action)
     ensures { λ _. ⌜ now (copy .exit) ≡ writtenCopy (now (copy .entry)) action ⌝ }
@@ -59,9 +66,7 @@ pub fn write_copy(copy: &mut [u8; 256], action: Action)
         Action::Silent => {}
         Action::SetAddress(_) => {}
         Action::Dropped => {}
-        Action::Reset => {
-            *copy = [0; 256];
-        }
+        Action::Reset => zero(copy),
         Action::Command(_) => {}
         Action::Customer(offset, byte) => {
             copy[offset as usize] = byte;
@@ -76,7 +81,7 @@ pub fn start_copy(copy: &mut [u8; 256], accepted: bool)
     ensures { λ _. ⌜ now (copy .exit) ≡ startedCopy accepted (now (copy .entry)) ⌝ }
 {
     if accepted {
-        *copy = [0; 256];
+        zero(copy);
     }
 }
 

@@ -18,6 +18,13 @@ pub const BURN: u8 = 2;
 
 pub const FIRST: u8 = 3;
 
+// The last offset, and the customer bytes' first and last.
+const LAST: u8 = 255;
+
+const CUSTOMER: u8 = 119;
+
+const CUSTOMER_LAST: u8 = 166;
+
 #[repr(C)]
 pub struct Job {
     // The word at 8000 without its status.
@@ -59,7 +66,7 @@ impl Job {
             kept: 0x0003,
             kind: FIRST,
             due: 0,
-            last: 255,
+            last: LAST,
             ended: 0,
         }
     }
@@ -73,7 +80,7 @@ impl Job {
                 kept: kept,
                 kind: LOAD,
                 due: 0,
-                last: 255,
+                last: LAST,
                 ended: 0,
             },
             Command::LoadByte(offset) => Job {
@@ -86,8 +93,8 @@ impl Job {
             Command::BurnCustomer => Job {
                 kept: kept,
                 kind: BURN,
-                due: 119,
-                last: 166,
+                due: CUSTOMER,
+                last: CUSTOMER_LAST,
                 ended: 0,
             },
             Command::BurnByte(offset) => Job {

@@ -1,12 +1,10 @@
 -- `jobs::bytes::write_copy` meets its contract.
 -- Assumes nothing.
-use Rattle.jobs.specs.Bytes.{zeros}
 use borrow.Author.Needs.{needs}
 use Rattle.jobs.proofs.bytes.write_copy.Statement.{statement}
 use Rattle.jobs.proofs.bytes.write_copy.Tie as tie
 
 pub write-copy-spec : {M : Type 1} → statement M
-unfolding zeros
 write-copy-spec =
     tie.close
     (tie.spec
@@ -15,6 +13,7 @@ write-copy-spec =
     (λ c. search needs)
     (λ c. search needs)
     (λ c. search needs)
+    (λ c κs. search needs)
     (λ c. search needs)
     (λ c. search needs)
     (λ c. search needs)
@@ -25,7 +24,7 @@ write-copy-spec =
     (λ c. search needs)
     (λ c. search needs)
     (λ c. search needs)
-    (λ c. rw (c .before .enum-told5 .given .1))
+    (λ c. search needs)
     (λ c. search needs)
     (λ c. rw (c .before .action .given .1))
     (λ c. search needs)
