@@ -1,11 +1,10 @@
--- The readout's product fits an i32, and its quotient an i16; document 01's cases of it.
+-- The readout's product fits an i32, and its quotient an i16.
 -- Assumes nothing.
 use Prim.Native.Nat.{ℕ, zero, suc, _*_, _/_, _≤_, _<_, _^_}
 use native.Mathlib.Omega.{arith}
 use mathlib.Core.Path.{_≡_, refl}
 use lib.IntN.{ℤ, pos, negsuc, negℤ, _*ℤ_}
 use lib.Signed.{quotZ}
-use Rattle.dom.specs.Readout.{tenthsOf}
 use mir.Syntax.{Width, w16, w32}
 use mir.Val.{SFits, hbits}
 
@@ -26,7 +25,3 @@ pub quotient-fits : (z : ℤ) → SFits w16 z → SFits w16 (quotZ (z *ℤ pos 1
 quotient-fits (pos n) f = record { sfits = omega (arith, f .sfits) }
 quotient-fits (negsuc n) f =
     rw (quotient-negative (suc n * 10)) (negative-fits w16 (suc n * 10 / 256) (omega arith) (omega (arith, f .sfits)))
-
--- 192 reads 7, and −192 reads −7
-pub toward-zero : (tenthsOf (pos 192) ≡ pos 7) × (tenthsOf (negℤ (pos 192)) ≡ negℤ (pos 7))
-toward-zero = (refl, refl)

@@ -7,3 +7,4 @@ pub mod TwoRuns
 pub mod Unchanged
 pub mod Settling
 pub mod Cases
+pub mod Refusals

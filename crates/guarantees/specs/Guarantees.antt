@@ -5,13 +5,16 @@ use mathlib.Core.Bool.{Bool, true, false, cond}
 use mathlib.Core.List.{List, [], _∷_, _++_}
 use mathlib.Core.Logic.{_≢_}
 use mathlib.Core.Path.{_≡_}
+use lib.Dec.{eqb, ltb}
 use lib.ListN.{length, getD, replicate}
 use Rattle.words.specs.Words.{bit}
 use Rattle.registers.specs.declared.Register.the-variants.{Status, Flags}
+use Rattle.nvr.specs.Image.{checksumRight}
+use Rattle.dom.specs.Thresholds.{thresholdsOf, ordered}
 use Rattle.jobs.specs.declared.bytes.Cut.the-variants.{Clean}
 use Rattle.lasi.specs.Alarms.{alarmLine}
-use Rattle.xenpak.specs.Answers.{Said, said}
-use Rattle.making.specs.Making.{make}
+use Rattle.xenpak.specs.Answers.{Said, saidPlain, said}
+use Rattle.making.specs.Making.{blank, make}
 use Rattle.xenpak.specs.Frame.{valueAt}
 use Rattle.xenpak.specs.Calls.{step, run}
 use Rattle.xenpak.specs.Settling.{settle}
@@ -20,12 +23,12 @@ use Rattle.xenpak.specs.declared.answers.FrameAnswer.the-variants.{Silent, Drop
 use Rattle.xenpak.specs.declared.answers.SettleAnswer.the-variants.{Ticks}
 use Rattle.xenpak.specs.declared.answers.CallAnswer.the-variants.{Frame}
 use Rattle.xenpak.specs.declared.answers.Call.{Call}
-use Rattle.xenpak.specs.declared.answers.Call.the-variants.{PowerOn, Cut, Tick}
+use Rattle.xenpak.specs.declared.answers.Call.the-variants.{PowerOn, Cut, ResetPin, Frame as Send, Tick, Lines, Sample}
 use Rattle.xenpak.specs.declared.Module.{Module}
 use Rattle.xenpak.specs.declared.Outcome.{Outcome}
 use Rattle.guarantees.specs.Reference.{Reference, initial, runRef, stepRef, customerOffset}
 use Rattle.guarantees.specs.BurnLog.{burnLog, applied}
-use Rattle.guarantees.specs.History.{Event, events, stepEvent, stands, rxAlarmBit, txAlarmBit, lasiBit, txAlarms, rxAlarms, txWarnings, rxWarnings, lineByHistory}
+use Rattle.guarantees.specs.History.{Event, events, stepEvent, inRange, stands, rxAlarmBit, txAlarmBit, lasiBit, txAlarms, rxAlarms, txWarnings, rxWarnings, lineByHistory}
 
 -- ---- what can be seen of a run
 -- the answer to each call
@@ -109,7 +112,42 @@ AlarmsByHistory = (port : ℕ) (image thresholds : List ℕ) (a : Module) (calls
     → make port image thresholds ≡ accepted a → run a calls .powered ≡ true
     → AlarmRegisters thresholds (run a calls) (runRef port (initial image) calls) (events port (initial image) [] calls)
 
--- demand 1: any refused call leaves the record, whatever it holds; so does a frame that is silent or dropped
+-- demand 1: making refuses by the lowest of numbers 1 to 5 that applies, 0 if none does, and then gives the blank module
+abbrev pub makingRefusal : ℕ → List ℕ → List ℕ → ℕ
+makingRefusal port image thresholds =
+    cond (ltb 31 port) 1
+    (cond (eqb (length image) 256)
+    (cond (eqb (length thresholds) 40) (cond (checksumRight image) (cond (ordered (thresholdsOf thresholds)) 0 5) 4) 3)
+    2)
+
+pub record MakingRefuses (port : ℕ) (image thresholds : List ℕ) : Type 0 where
+  pub number : saidPlain (make port image thresholds .answer) .refusal ≡ makingRefusal port image thresholds
+  pub blank-given : makingRefusal port image thresholds ≢ 0 → make port image thresholds .next ≡ blank
+
+abbrev pub Making : Type 0
+Making = (port : ℕ) (image thresholds : List ℕ) → MakingRefuses port image thresholds
+
+-- the other calls, by power and arguments: 7 when off but for power-on; 8 and 6 when on
+abbrev pub refusalBy : Bool → Call → ℕ
+refusalBy true PowerOn = 8
+refusalBy true (Cut cut) = 0
+refusalBy true ResetPin = 0
+refusalBy true (Send word) = 0
+refusalBy true Tick = 0
+refusalBy true (Lines l) = 0
+refusalBy true (Sample s) = cond (inRange (s .temperature)) 0 6
+refusalBy false PowerOn = 0
+refusalBy false (Cut cut) = 7
+refusalBy false ResetPin = 7
+refusalBy false (Send word) = 7
+refusalBy false Tick = 7
+refusalBy false (Lines l) = 7
+refusalBy false (Sample s) = 7
+
+abbrev pub Refusals : Type 0
+Refusals = (m : Module) (c : Call) → said (step m c .answer) .refusal ≡ refusalBy (m .powered) c
+
+-- a refused call leaves the record, whatever it holds; so does a frame that is silent or dropped
 abbrev pub RefusedUnchanged : Type 0
 RefusedUnchanged = (m : Module) (c : Call) → said (step m c .answer) .refusal ≢ 0 → step m c .next ≡ m
 

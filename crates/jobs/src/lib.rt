@@ -145,7 +145,11 @@ impl Job {
     pub fn pma_word(self) -> u16
         ensures { λ r. ⌜ r ≡ pmaWord self ⌝ }
     {
-        if self.kind == FIRST { 0xa040 } else { 0x2040 }
+        let kind = self.kind;
+        match kind {
+            FIRST => 0xa040,
+            _ => 0x2040,
+        }
     }
 
     // What a tick is to do.

@@ -1,7 +1,6 @@
 -- `jobs::Job::pma_word` meets its contract.
 -- Assumes nothing.
 use borrow.Author.Tests.{ne-eqb}
-use borrow.Author.Tests.{eq-eqb}
 use Rattle.jobs.proofs.Job.pma_word.Statement.{statement}
 use Rattle.jobs.proofs.Job.pma_word.Tie as tie
 
@@ -9,5 +8,5 @@ pub pma-word-spec : {M : Type 1} → statement M
 pma-word-spec =
     tie.close
     (tie.spec
-    (λ c. rw (eq-eqb _ _ (c .if1 .taken)))
-    (λ c. rw (ne-eqb _ _ (c .if1 .left))))
+    (λ c. rw (c .match .keys1))
+    (λ c. rw (ne-eqb _ 3 (c .match .rest .1))))

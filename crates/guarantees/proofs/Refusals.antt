@@ -1,0 +1,152 @@
+-- The number of each refusal, by document 01's conditions.
+-- Assumes nothing.
+use Prim.Native.Nat.{ℕ}
+use mathlib.Core.Bool.{Bool, true, false, cond, not, _&&_}
+use mathlib.Core.List.{List}
+use mathlib.Core.Logic.{_≢_}
+use mathlib.Core.Path.{_≡_, refl, ap}
+use lib.Dec.{eqb, ltb}
+use lib.ListN.{length}
+use Rattle.words.specs.Words.{bit}
+use Rattle.mdio.specs.Frame.{requestOf}
+use Rattle.mdio.specs.declared.Request.{Request}
+use Rattle.mdio.specs.declared.Request.the-variants as request
+use Rattle.registers.specs.Map.{registerAt}
+use Rattle.registers.specs.declared.Register.{Register}
+use Rattle.registers.specs.declared.Register.the-variants as register
+use Rattle.action.specs.Action.{when, writeTo, requestAction, actionOf}
+use Rattle.action.specs.declared.Action.{Action}
+use Rattle.action.specs.declared.Action.the-variants as action
+use Rattle.nvr.specs.Image.{checksumRight}
+use Rattle.jobs.specs.Job.{isBusy, workOf}
+use Rattle.jobs.specs.Bytes.{movedByte}
+use Rattle.jobs.specs.declared.Job.{Job}
+use Rattle.dom.specs.Codes.{acceptable}
+use Rattle.dom.specs.Thresholds.{thresholdsOf, ordered}
+use Rattle.xenpak.specs.Answers.{saidPlain, saidFrame, saidTick, said}
+use Rattle.xenpak.specs.Frame.{frame, valueAt, registerOf, answerOf}
+use Rattle.xenpak.specs.Calls as calls
+use Rattle.xenpak.specs.Calls.{step, onAnswer, offAnswer, sampleAnswer, tickAnswer}
+use Rattle.xenpak.specs.declared.answers.Call.{Call}
+use Rattle.xenpak.specs.declared.answers.Call.the-variants as call
+use Rattle.xenpak.specs.declared.Module.{Module}
+use Rattle.xenpak.specs.declared.Outcome.{Outcome}
+use Rattle.making.specs.Making.{fresh, blank, refused, judgedBy, make}
+use Rattle.xenpak.specs.declared.answers.Refusal.the-variants.{Port, ImageLength, ThresholdsLength}
+use Rattle.guarantees.specs.Guarantees.{makingRefusal, MakingRefuses, Making, refusalBy, Refusals}
+
+-- ---- making
+module _ (m : Module) where
+  abbrev judgement : (port image thresholds sum order : Bool) → Outcome
+  judgement port image thresholds sum order =
+      cond port (refused Port) (cond image (cond thresholds (judgedBy sum order m) (refused ThresholdsLength)) (refused ImageLength))
+
+  abbrev number : (port image thresholds sum order : Bool) → ℕ
+  number port image thresholds sum order = cond port 1 (cond image (cond thresholds (cond sum (cond order 0 5) 4) 3) 2)
+
+  numbered : (p i t c o : Bool) → saidPlain (judgement p i t c o .answer) .refusal ≡ number p i t c o
+  numbered true i t c o = refl
+  numbered false false t c o = refl
+  numbered false true false c o = refl
+  numbered false true true false o = refl
+  numbered false true true true false = refl
+  numbered false true true true true = refl
+
+  blanked : (p i t c o : Bool) → number p i t c o ≢ 0 → judgement p i t c o .next ≡ blank
+  blanked true i t c o f = refl
+  blanked false false t c o f = refl
+  blanked false true false c o f = refl
+  blanked false true true false o f = refl
+  blanked false true true true false f = refl
+  blanked false true true true true f = absurd (f refl)
+
+pub making : Making
+unfolding make
+making port image thresholds =
+    let m = fresh port image thresholds in
+    let p = ltb 31 port in
+    let i = eqb (length image) 256 in
+    let t = eqb (length thresholds) 40 in
+    let c = checksumRight image in
+    let o = ordered (thresholdsOf thresholds) in
+    record { number = numbered m p i t c o; blank-given = blanked m p i t c o }
+
+-- ---- the other calls
+abbrev frameNumber : Action → ℕ → ℕ
+frameNumber a value = saidFrame (answerOf a value) .refusal
+
+taken : (b : Bool) (a : Action) (value : ℕ) → frameNumber a value ≡ 0 → frameNumber (when b a) value ≡ 0
+taken true a value e = e
+taken false a value e = refl
+
+writes : (r : Register) (busy : Bool) (v value : ℕ) → frameNumber (writeTo r busy v) value ≡ 0
+writes register.PmaControl busy v value = taken (bit 15 v) action.Reset value refl
+writes register.NvrControl busy v value = taken (not busy) (action.Command v) value refl
+writes (register.Copy offset) busy v value = refl
+writes (register.Customer offset) busy v value = taken (not busy) _ value refl
+writes (register.Control i) busy v value = refl
+writes (register.Status i) busy v value = refl
+writes (register.Threshold k) busy v value = refl
+writes (register.Sample quantity low) busy v value = refl
+writes (register.Flags i) busy v value = refl
+writes register.Unlisted busy v value = refl
+
+requests : (q : Request) (address : ℕ) (busy : Bool) (value : ℕ) → frameNumber (requestAction q address busy) value ≡ 0
+requests request.Silent address busy value = refl
+requests (request.SetAddress a) address busy value = refl
+requests (request.Write v) address busy value = writes (registerAt address) busy v value
+requests request.Read address busy value = refl
+requests request.ReadIncrement address busy value = refl
+
+works : (j : Job) (byte : ℕ) → saidTick (tickAnswer (workOf true j) byte) .refusal ≡ 0
+works j byte = go (eqb (j .kind) 0) (eqb (j .kind) 2) refl refl
+  where
+    go : (b c : Bool) → eqb (j .kind) 0 ≡ b → eqb (j .kind) 2 ≡ c → saidTick (tickAnswer (workOf true j) byte) .refusal ≡ 0
+    go true c p q = rw p
+    go false true p q = rw (p, q)
+    go false false p q = rw (p, q)
+
+pub refusals : Refusals
+unfolding step calls.powerOn calls.powerCut calls.resetPin calls.tick calls.lines calls.sample frame actionOf
+refusals m call.PowerOn = go (m .powered)
+  where
+    go : (b : Bool) → saidPlain (offAnswer b) .refusal ≡ refusalBy b call.PowerOn
+    go true = refl
+    go false = refl
+refusals m (call.Cut cut) = go (m .powered)
+  where
+    go : (b : Bool) → saidPlain (onAnswer b) .refusal ≡ refusalBy b (call.Cut cut)
+    go true = refl
+    go false = refl
+refusals m call.ResetPin = go (m .powered)
+  where
+    go : (b : Bool) → saidPlain (onAnswer b) .refusal ≡ refusalBy b call.ResetPin
+    go true = refl
+    go false = refl
+refusals m (call.Frame word) = go (m .powered)
+  where
+    go : (b : Bool)
+        → frameNumber (cond b (requestAction (requestOf word (m .port)) (m .bus .address) (isBusy (m .job))) action.Refused)
+        (valueAt m (registerOf (cond b (requestAction (requestOf word (m .port)) (m .bus .address) (isBusy (m .job))) action.Refused)))
+        ≡ refusalBy b (call.Frame word)
+    go true = requests (requestOf word (m .port)) (m .bus .address) (isBusy (m .job)) _
+    go false = refl
+refusals m call.Tick = go (m .powered)
+  where
+    go : (b : Bool) → saidTick (tickAnswer (workOf b (m .job)) (movedByte (m .store) (m .copy) (workOf b (m .job)))) .refusal ≡ refusalBy b call.Tick
+    go true = works (m .job) _
+    go false = refl
+refusals m (call.Lines l) = go (m .powered)
+  where
+    go : (b : Bool) → saidPlain (onAnswer b) .refusal ≡ refusalBy b (call.Lines l)
+    go true = refl
+    go false = refl
+refusals m (call.Sample s) = go (m .powered)
+  where
+    ranged : (right : Bool) → saidPlain (sampleAnswer true right) .refusal ≡ cond right 0 6
+    ranged true = refl
+    ranged false = refl
+
+    go : (b : Bool) → saidPlain (sampleAnswer b (acceptable (s .temperature))) .refusal ≡ refusalBy b (call.Sample s)
+    go true = ranged (acceptable (s .temperature))
+    go false = refl
