@@ -59,6 +59,7 @@ frameEvent address request.ReadIncrement = dataFrom (registerAt address)
 abbrev pub inRange : ℤ → Bool
 inRange t = leZ (negsuc 0x27ff) t && leZ t (pos 0x7d00)
 
+-- of a powered module's call, and of one that is off
 unfoldable pub onEvent : ℕ → Reference → Call → Event
 onEvent port r call.PowerOn = nothing
 onEvent port r (call.Cut cut) = nothing
@@ -95,9 +96,11 @@ pub data Effect : Type 0 where
   -- it is a lines call or a sample that has these bits
   gives : (ℕ → Bool) → Effect
 
+-- what each event is to a register
 abbrev pub Source : Type 0
 Source = Event → Effect
 
+-- the data is from status register k: 0 is 9003, 1 is 9004, 2 is 9005
 abbrev pub fromStatus : ℕ → Register → Bool
 fromStatus k PmaControl = false
 fromStatus k NvrControl = false
@@ -110,6 +113,7 @@ fromStatus k (Sample quantity half) = false
 fromStatus k (Flags i) = false
 fromStatus k Unlisted = false
 
+-- the data is from flag register k: 0 is A070, 1 is A071, 2 is A074, 3 is A075
 abbrev pub fromFlags : ℕ → Register → Bool
 fromFlags k PmaControl = false
 fromFlags k NvrControl = false
