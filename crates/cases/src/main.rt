@@ -1,20 +1,24 @@
-// Cases from the papers, run on the code: the rows say what is asked, and the file stdout what must come out.
-mod dom_rows;
-mod frame_rows;
-mod nvr_rows;
+// Cases of document 01 beside its own table, run on the code; the file stdout has what must come out.
+mod alarms;
+mod bench;
+mod commands;
+mod frames;
+mod monitoring;
+mod nvr_jobs;
+mod play;
 mod print;
-mod rows;
-
-use crate::print::newline;
-use crate::rows::COUNT;
-use crate::rows::ROWS;
-use crate::rows::run;
+mod refusals;
+mod register_map;
+mod steps;
+mod struck;
 
 fn main() {
-    let mut i = 0;
-    while i < COUNT {
-        run(ROWS[i]);
-        newline();
-        i += 1;
-    }
+    refusals::cases();
+    register_map::cases();
+    monitoring::cases();
+    commands::cases();
+    nvr_jobs::cases();
+    struck::cases();
+    frames::cases();
+    alarms::cases();
 }

@@ -1,12 +1,13 @@
 // What the cases write to standard output.
 use libc::STDOUT_FILENO;
+use xenpak::answers::Answer;
+use xenpak::answers::CallAnswer;
+use xenpak::answers::FrameAnswer;
+use xenpak::answers::Refusal;
+use xenpak::answers::TickAnswer;
 
 pub fn text(s: &[u8]) {
     io::write_all(STDOUT_FILENO, s);
-}
-
-pub fn newline() {
-    text(b"\n");
 }
 
 // A space, and four hexadecimal digits.
@@ -15,11 +16,61 @@ pub fn word(n: u16) {
     io::print_hex(STDOUT_FILENO, n as u64, 4);
 }
 
-// Name k of a list of names of ten bytes each.
-pub fn name(names: &[u8], k: u8) {
-    let from = k as usize * 10;
-    let to = from + 10;
-    if to <= names.len() {
-        text(&names[from..to]);
+// A space, and a decimal number.
+pub fn number(n: u32) {
+    text(b" ");
+    io::print_decimal(STDOUT_FILENO, n as u64);
+}
+
+// Document 01's number of a refusal.
+pub fn refusal(why: Refusal) {
+    let n = match why {
+        Refusal::Port => 1,
+        Refusal::ImageLength => 2,
+        Refusal::ThresholdsLength => 3,
+        Refusal::Checksum => 4,
+        Refusal::ThresholdOrder => 5,
+        Refusal::Temperature => 6,
+        Refusal::PoweredOff => 7,
+        Refusal::PoweredOn => 8,
+    };
+    number(n);
+}
+
+// s silent, a address set, w written, d dropped, or the data.
+fn framed(answer: FrameAnswer) {
+    match answer {
+        FrameAnswer::Silent => text(b" s"),
+        FrameAnswer::Set => text(b" a"),
+        FrameAnswer::Written => text(b" w"),
+        FrameAnswer::Dropped => text(b" d"),
+        FrameAnswer::Data(value) => word(value),
+        FrameAnswer::Refused(why) => refusal(why),
+    }
+}
+
+fn moved(name: &[u8], offset: u8, byte: u8) {
+    text(name);
+    number(offset as u32);
+    word(byte as u16);
+}
+
+fn ticked(answer: TickAnswer) {
+    match answer {
+        TickAnswer::Nothing => text(b" nothing"),
+        TickAnswer::Loaded(offset, byte) => moved(b" loaded", offset, byte),
+        TickAnswer::Burned(offset, byte) => moved(b" burned", offset, byte),
+        TickAnswer::Refused(why) => refusal(why),
+    }
+}
+
+pub fn answer_of(answer: CallAnswer) {
+    match answer {
+        CallAnswer::Plain(a) => match a {
+            Answer::Accepted => text(b" ok"),
+            Answer::Refused(why) => refusal(why),
+        },
+        CallAnswer::Frame(a) => framed(a),
+        CallAnswer::Tick(a) => ticked(a),
     }
 }

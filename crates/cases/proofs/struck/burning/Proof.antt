@@ -1,28 +1,29 @@
--- `cases::main` is safe and ends: the loop goes through the rows.
+-- `cases::struck::burning` is safe and ends: the loop goes through the customer registers.
 -- Assumes nothing.
 use Prim.Native.Nat.{_≤_, _-_}
 use borrow.Author.Needs.{needs}
-use Rattle.cases.proofs.main.Statement.{statement}
-use Rattle.cases.proofs.main.Tie as tie
+use Rattle.cases.proofs.struck.burning.Statement.{statement}
+use Rattle.cases.proofs.struck.burning.Tie as tie
 
 abbrev Inv-loop : tie.InvT-loop
-Inv-loop i₀ i = i ≤ 101
+Inv-loop b₀ i₀ b i = i ≤ 48
 
 abbrev μ-loop : tie.MeasureT-loop
-μ-loop i₀ i = 101 - i
+μ-loop b₀ i₀ b i = 48 - i
 
-pub main-spec : {M : Type 1} → statement M
-main-spec =
+pub burning-spec : {M : Type 1} → statement M
+burning-spec =
     tie.close
     (tie.spec
     Inv-loop
     μ-loop
-    (λ c. search needs)
-    (λ c. search needs)
-    (λ c. search needs)
-    (λ c κs. search needs)
     (λ c κs. search needs)
     (λ c. search needs)
     (λ c. search needs)
     (λ c. search needs)
+    (λ c κs. search needs)
+    (λ c. search needs)
+    (λ c. search needs)
+    (λ c. search needs)
+    (λ c κs. search needs)
     (λ c. search needs))
