@@ -165,6 +165,7 @@ fn threshold_at(thresholds: [u8; 40], k: u8) -> u8
     if k < 40 { thresholds[k as usize] } else { 0 }
 }
 
+// Every call but power-on is refused with 7 when the module is off; the reads are never refused.
 impl Module {
     // What power-on and reset share, if it is accepted: a first load starts, with all at zero but port, store,
     // thresholds, power and these alarms.
@@ -187,6 +188,7 @@ impl Module {
         self
     }
 
+    // Power-on: the first load starts. Refused with 8 when powered.
     pub fn power_on(mut self) -> Outcome
         ensures { λ r. ⌜ r ≡ powerOn self ⌝ }
     {
@@ -202,6 +204,7 @@ impl Module {
         }
     }
 
+    // The reset pin: the first load starts, and the lines are kept.
     pub fn reset_pin(self) -> Outcome
         ensures { λ r. ⌜ r ≡ resetPin self ⌝ }
     {
@@ -216,6 +219,7 @@ impl Module {
         }
     }
 
+    // The power goes; a struck cut leaves its byte where a burn is due.
     pub fn power_cut(mut self, cut: Cut) -> Outcome
         ensures { λ r. ⌜ r ≡ powerCut self cut ⌝ }
     {
@@ -233,6 +237,7 @@ impl Module {
         }
     }
 
+    // One byte of the job, if one is due.
     pub fn tick(mut self) -> TickOutcome
         ensures { λ r. ⌜ r ≡ tick self ⌝ }
     {
@@ -253,6 +258,7 @@ impl Module {
         }
     }
 
+    // The lines report faults and link levels.
     pub fn lines(mut self, given: Lines) -> Outcome
         ensures { λ r. ⌜ r ≡ lines self given ⌝ }
     {
@@ -267,6 +273,7 @@ impl Module {
         }
     }
 
+    // The monitor reports a sample; one out of range is refused with 6.
     pub fn sample(mut self, given: Sample) -> Outcome
         ensures { λ r. ⌜ r ≡ sample self given ⌝ }
     {
@@ -386,6 +393,7 @@ impl Module {
         self
     }
 
+    // A frame on the bus: what it asks is decided, then each part reacts.
     pub fn frame(self, word: u32) -> FrameOutcome
         ensures { λ r. ⌜ r ≡ frame self word ⌝ }
     {
@@ -441,6 +449,7 @@ impl Module {
         }
     }
 
+    // Ticks until no job is due or the budget is spent, and counts them.
     pub fn settle(self, budget: u32) -> SettleOutcome
         ensures { λ r. ⌜ r ≡ settle self budget ⌝ }
     {
@@ -468,6 +477,7 @@ impl Module {
         self.bus.counter
     }
 
+    // The byte of the store at an offset.
     pub fn stored(self, offset: u8) -> u8
         ensures { λ r. ⌜ r ≡ getD (self .store) offset 0 ⌝ }
     {
