@@ -13,7 +13,6 @@ use dom::Sample;
 use dom::signed_code;
 use jobs::bytes::Cut;
 use lasi::Lines;
-use xenpak::Module;
 use xenpak::answers::Call;
 
 // Faults, and levels in bits 2 to 0.
@@ -74,29 +73,20 @@ fn done(b: Bench, kind: u64, n: u32) -> Bench {
     }
 }
 
-// What can be read from the record.
-fn look(m: Module, kind: u64, n: u32) {
+// A step from SHOW to BAR.
+fn shown(b: Bench, kind: u64, n: u32) -> Bench {
+    let m = b.module;
     match kind {
+        SHOW => return b.show(),
+        READ => return b.read((n % 0x1_0000) as u16),
+        READ_NEXT => return b.call(Call::Frame(READ_INCREMENT_FRAME)).show(),
+        SETTLE => return b.settle(n),
         ALARM => number(m.alarm_line() as u32),
         COUNTER => number(m.counter() as u32),
         STORED => word(m.stored((n % 256) as u8) as u16),
         _ => text(b" |"),
     }
-}
-
-// A step from SHOW to BAR.
-fn shown(b: Bench, kind: u64, n: u32) -> Bench {
-    match kind {
-        SHOW => b.show(),
-        READ => b.read((n % 0x1_0000) as u16),
-        READ_NEXT => b.call(Call::Frame(READ_INCREMENT_FRAME)).show(),
-        SETTLE => b.settle(n),
-        _ => {
-            let m = b.module;
-            look(m, kind, n);
-            b
-        }
-    }
+    b
 }
 
 fn step(b: Bench, row: u64) -> Bench {
@@ -141,21 +131,17 @@ const SHOW_START: [u64; 12] = [
     READ + 0x8080,
 ];
 
-fn command(b: Bench, written: u16) -> Bench {
-    let job = SHOW_JOB;
-    text(b" |");
-    word(written);
-    run(b.write(0x8000, written), &job)
-}
-
 // Any step. FLAGS, COMMAND and AFTER_RESET are several.
 fn part(b: Bench, row: u64) -> Bench {
-    let flags = SHOW_FLAGS;
-    let start = SHOW_START;
     match row - row % 0x1_0000_0000 {
-        FLAGS => run(b, &flags),
-        COMMAND => command(b, (row % 0x1_0000) as u16),
-        AFTER_RESET => run(b, &start),
+        FLAGS => run(b, &SHOW_FLAGS),
+        COMMAND => {
+            let written = (row % 0x1_0000) as u16;
+            text(b" |");
+            word(written);
+            run(b.write(0x8000, written), &SHOW_JOB)
+        }
+        AFTER_RESET => run(b, &SHOW_START),
         _ => step(b, row),
     }
 }
