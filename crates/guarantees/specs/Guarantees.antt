@@ -68,27 +68,35 @@ accepted m = record { next = m; answer = Accepted }
 abbrev pub powerCycle : Module → List Call
 powerCycle m = cond (m .powered) (Cut Clean ∷ PowerOn ∷ []) (PowerOn ∷ [])
 
+-- a module after the calls and such a power cycle
+abbrev pub cycled : Module → List Call → Module
+cycled m calls = run m (calls ++ powerCycle (run m calls))
+
+-- an image with the burn log of the calls applied
+abbrev pub burned : ℕ → List ℕ → List Call → List ℕ
+burned port image calls = applied (burnLog port (initial image) calls) image
+
 -- a was made from the image and lived through the calls
 pub record TwoRuns (port : ℕ) (image thresholds : List ℕ) (a : Module) (calls : List Call) : Type 0 where
   -- its store is its image with its burn log applied, and differs from that image in customer bytes alone
-  pub store : run a calls .store ≡ applied (burnLog port (initial image) calls) image
+  pub store : run a calls .store ≡ burned port image calls
   pub size : length (run a calls .store) ≡ 256
   pub customer : (i : ℕ) → customerOffset i ≡ false → getD (run a calls .store) i 0 ≡ getD image i 0
   -- b is made from the image with that log applied, the same port and thresholds
   pub b : Module
-  pub made : make port (applied (burnLog port (initial image) calls) image) thresholds ≡ accepted b
+  pub made : make port (burned port image calls) thresholds ≡ accepted b
   -- a clean cut of a if it is powered, then power-on of both: the records are equal
-  pub same : run a (calls ++ powerCycle (run a calls)) ≡ run b (PowerOn ∷ [])
+  pub same : cycled a calls ≡ run b (PowerOn ∷ [])
   -- then every later list gets equal answers, and at its start and after each call equal line, counter and store
-  pub answered : (later : List Call) → answers (run a (calls ++ powerCycle (run a calls))) later ≡ answers (run b (PowerOn ∷ [])) later
-  pub seen-alike : (later : List Call) → sights (run a (calls ++ powerCycle (run a calls))) later ≡ sights (run b (PowerOn ∷ [])) later
+  pub answered : (later : List Call) → answers (cycled a calls) later ≡ answers (run b (PowerOn ∷ [])) later
+  pub seen-alike : (later : List Call) → sights (cycled a calls) later ≡ sights (run b (PowerOn ∷ [])) later
   -- in either run, after making and after every call, the line is the history rule's
   pub a-line : (later : List Call)
       → alarmLines a (calls ++ (powerCycle (run a calls) ++ later))
       ≡ linesByHistory port thresholds (initial image) [] (calls ++ (powerCycle (run a calls) ++ later))
   pub b-line : (later : List Call)
       → alarmLines b (PowerOn ∷ later)
-      ≡ linesByHistory port thresholds (initial (applied (burnLog port (initial image) calls) image)) [] (PowerOn ∷ later)
+      ≡ linesByHistory port thresholds (initial (burned port image calls)) [] (PowerOn ∷ later)
 
 -- for every accepted making and every list of calls
 abbrev pub Demand3 : Type 0

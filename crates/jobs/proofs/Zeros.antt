@@ -1,9 +1,12 @@
--- The copy begins as 256 zeros: the fact at each offset.
+-- The copy begins as 256 zeros: the fact at each offset, after power-on, the reset pin and a reset by frame.
 -- Assumes nothing.
 use Prim.Native.Nat.{ℕ, zero, suc}
+use mathlib.Core.Bool.{true}
+use mathlib.Core.List.{List}
 use mathlib.Core.Path.{_≡_, refl}
-use lib.ListN.{getD, length, replicate}
-use Rattle.jobs.specs.Bytes.{zeros}
+use lib.ListN.{getD}
+use Rattle.action.specs.declared.Action.the-variants.{Reset}
+use Rattle.jobs.specs.Bytes.{zeros, startedCopy, writtenCopy}
 
 pub zeros-at : (n k : ℕ) → getD (zeros n) k 0 ≡ 0
 unfolding zeros
@@ -11,7 +14,8 @@ zeros-at zero k = refl
 zeros-at (suc n) zero = refl
 zeros-at (suc n) (suc k) = zeros-at n k
 
-pub zeros-length : (n : ℕ) → length (zeros n) ≡ n
-unfolding zeros
-zeros-length zero = refl
-zeros-length (suc n) = λ i. suc (zeros-length n i)
+pub started-at : (copy : List ℕ) (k : ℕ) → getD (startedCopy true copy) k 0 ≡ 0
+started-at copy k = zeros-at 256 k
+
+pub reset-at : (copy : List ℕ) (k : ℕ) → getD (writtenCopy copy Reset) k 0 ≡ 0
+reset-at copy k = zeros-at 256 k
