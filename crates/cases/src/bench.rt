@@ -2,12 +2,13 @@
 use crate::print::answer_of;
 use crate::print::number;
 use crate::print::refusal;
+use answers::Answer;
+use answers::SettleAnswer;
+use calls::Call;
+use calls::CallAnswer;
 use making::make;
+use settling::settle;
 use xenpak::Module;
-use xenpak::answers::Answer;
-use xenpak::answers::Call;
-use xenpak::answers::CallAnswer;
-use xenpak::answers::SettleAnswer;
 
 // The frames of port 5, device 1: an address, a write, a read, a read that then adds one to the address.
 const ADDRESS_FRAME: u32 = 0x0286_0000;
@@ -92,7 +93,7 @@ pub fn loaded() -> Bench {
 impl Bench {
     pub fn call(self, call: Call) -> Bench {
         let module = self.module;
-        let outcome = module.call(call);
+        let outcome = call.on(module);
         let next = outcome.next;
         let answer = outcome.answer;
         Bench {
@@ -132,7 +133,7 @@ impl Bench {
 
     pub fn settle(self, budget: u32) -> Bench {
         let module = self.module;
-        let outcome = module.settle(budget);
+        let outcome = settle(module, budget);
         let next = outcome.next;
         let answer = outcome.answer;
         match answer {

@@ -1,8 +1,8 @@
 // Cases of document 01 beside its own table, run on the code; the file stdout has what must come out.
-mod alarms;
 mod bench;
 mod commands;
 mod frames;
+mod lasi_alarms;
 mod monitoring;
 mod nvr_jobs;
 mod play;
@@ -20,5 +20,5 @@ fn main() {
     nvr_jobs::cases();
     struck::cases();
     frames::cases();
-    alarms::cases();
+    lasi_alarms::cases();
 }

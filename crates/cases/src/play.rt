@@ -9,11 +9,11 @@ use crate::print::number;
 use crate::print::text;
 use crate::print::word;
 use crate::steps::*;
+use alarms::Lines;
+use calls::Call;
 use dom::Sample;
 use dom::signed_code;
-use jobs::bytes::Cut;
-use lasi::Lines;
-use xenpak::answers::Call;
+use store::Cut;
 
 // Faults, and levels in bits 2 to 0.
 fn lines(faults: u32, levels: u32) -> Call {

@@ -1,10 +1,10 @@
 // What the cases write to standard output.
+use answers::Answer;
+use answers::FrameAnswer;
+use answers::Refusal;
+use answers::TickAnswer;
+use calls::CallAnswer;
 use libc::STDOUT_FILENO;
-use xenpak::answers::Answer;
-use xenpak::answers::CallAnswer;
-use xenpak::answers::FrameAnswer;
-use xenpak::answers::Refusal;
-use xenpak::answers::TickAnswer;
 
 pub fn text(s: &[u8]) {
     io::write_all(STDOUT_FILENO, s);

@@ -4,9 +4,9 @@ use crate::bench::Bench;
 use crate::bench::loaded;
 use crate::print::number;
 use crate::print::text;
-use jobs::bytes::Cut;
+use calls::Call;
+use store::Cut;
 use xenpak::Module;
-use xenpak::answers::Call;
 
 // C0 to EF written to the customer registers, and a burn of them due.
 fn burning() -> Bench {

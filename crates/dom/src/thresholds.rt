@@ -3,6 +3,7 @@ ghost use mathlib.Core.Path.{_≡_};
 ghost use mathlib.Core.Bool.{cond};
 ghost use Prim.Native.Nat.{_≤_};
 ghost use lib.IntN.{pos};
+ghost use lib.ListN.{getD};
 ghost use Rattle.dom.specs.Codes.{signedCode};
 ghost use Rattle.dom.specs.Thresholds.{codeAt, rowAt, thresholdsOf, rowOrdered, ordered};
 use crate::code_of;
@@ -68,4 +69,11 @@ pub fn ordered(t: [[i32; 4]; 4]) -> bool
     ensures { λ r. ⌜ r ≡ ordered t ⌝ }
 {
     row_ordered(t[0]) & row_ordered(t[1]) & row_ordered(t[2]) & row_ordered(t[3])
+}
+
+// Threshold byte k, as given.
+pub fn byte_at(thresholds: [u8; 40], k: u8) -> u8
+    ensures { λ r. ⌜ r ≡ getD thresholds k 0 ⌝ }
+{
+    if k < 40 { thresholds[k as usize] } else { 0 }
 }

@@ -16,13 +16,14 @@ use Rattle.registers.specs.declared.Register.the-variants as register
 use Rattle.dom.specs.Thresholds.{thresholdsOf}
 use Rattle.flags.specs.Flags.{Side, alarm, warning, txBits, rxBits, flagsOf}
 use Rattle.latch.specs.Latch.{noLatch, fed, cleared, latched}
-use Rattle.lasi.specs.Alarms as alarms
-use Rattle.lasi.specs.Alarms.{noAlarms, rxAlarm, txAlarm, lasiStatus, alarmLine}
+use Rattle.alarms.specs.Alarms as alarms
+use Rattle.alarms.specs.Alarms.{noAlarms}
+use Rattle.lasi.specs.Lasi.{rxAlarm, txAlarm, lasiStatus, alarmLine}
 use Rattle.latch.specs.declared.Latch.{Latch}
 use Rattle.controls.specs.declared.Controls.{Controls}
-use Rattle.lasi.specs.declared.Alarms.{Alarms}
-use Rattle.xenpak.specs.Calls.{step, run}
-use Rattle.xenpak.specs.declared.answers.Call.{Call}
+use Rattle.alarms.specs.declared.Alarms.{Alarms}
+use Rattle.calls.specs.Calls.{step, run}
+use Rattle.calls.specs.declared.Call.{Call}
 use Rattle.xenpak.specs.declared.Module.{Module}
 use Rattle.guarantees.specs.Reference.{Reference, stepRef, runRef}
 use Rattle.guarantees.specs.BurnLog.{Entry}

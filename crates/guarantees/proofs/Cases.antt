@@ -7,12 +7,12 @@ use Rattle.mdio.specs.Frame.{asked, requestOf}
 use Rattle.registers.specs.Map.{rows, registerAt}
 use Rattle.action.specs.Action.{actionOf}
 use Rattle.nvr.specs.Command.{commandOf}
-use Rattle.jobs.specs.Bytes.{zeros}
+use Rattle.store.specs.Bytes.{zeros}
 use Rattle.flags.specs.Flags.{flagsOf}
 use Rattle.making.specs.Making.{make}
 use Rattle.xenpak.specs.Frame.{frame}
 use Rattle.xenpak.specs.Calls as calls
-use Rattle.xenpak.specs.Calls.{step}
+use Rattle.calls.specs.Calls.{step}
 use Rattle.guarantees.specs.Cases.{Row, result, table}
 
 pub cases : map (λ (r : Row). result (r .done)) table ≡ map (λ (r : Row). r .got) table

@@ -14,25 +14,25 @@ use Rattle.mdio.specs.declared.Request.the-variants as request
 use Rattle.registers.specs.Map.{registerAt}
 use Rattle.registers.specs.declared.Register.{Register}
 use Rattle.registers.specs.declared.Register.the-variants as register
-use Rattle.action.specs.Action.{when, writeTo, requestAction, actionOf}
+use Rattle.action.specs.Action.{when, writeTo, requestAction, actionOf, registerOf}
 use Rattle.action.specs.declared.Action.{Action}
 use Rattle.action.specs.declared.Action.the-variants as action
 use Rattle.nvr.specs.Image.{checksumRight}
 use Rattle.jobs.specs.Job.{isBusy, workOf}
-use Rattle.jobs.specs.Bytes.{movedByte}
+use Rattle.store.specs.Bytes.{movedByte}
 use Rattle.jobs.specs.declared.Job.{Job}
 use Rattle.dom.specs.Codes.{acceptable}
 use Rattle.dom.specs.Thresholds.{thresholdsOf, ordered}
-use Rattle.xenpak.specs.Answers.{saidPlain, saidFrame, saidTick, said}
-use Rattle.xenpak.specs.Frame.{frame, valueAt, registerOf, answerOf}
+use Rattle.answers.specs.Answers.{saidPlain, saidFrame, saidTick, frameAnswer, onAnswer, offAnswer, sampleAnswer, tickAnswer}
+use Rattle.calls.specs.Calls.{said, step}
+use Rattle.xenpak.specs.Frame.{frame, valueAt}
 use Rattle.xenpak.specs.Calls as calls
-use Rattle.xenpak.specs.Calls.{step, onAnswer, offAnswer, sampleAnswer, tickAnswer}
-use Rattle.xenpak.specs.declared.answers.Call.{Call}
-use Rattle.xenpak.specs.declared.answers.Call.the-variants as call
+use Rattle.calls.specs.declared.Call.{Call}
+use Rattle.calls.specs.declared.Call.the-variants as call
 use Rattle.xenpak.specs.declared.Module.{Module}
 use Rattle.xenpak.specs.declared.Outcome.{Outcome}
 use Rattle.making.specs.Making.{fresh, blank, refused, judgedBy, make}
-use Rattle.xenpak.specs.declared.answers.Refusal.the-variants.{Port, ImageLength, ThresholdsLength}
+use Rattle.answers.specs.declared.Refusal.the-variants.{Port, ImageLength, ThresholdsLength}
 use Rattle.guarantees.specs.Guarantees.{makingRefusal, MakingRefuses, Making, refusalBy, Refusals}
 
 -- ---- making
@@ -73,7 +73,7 @@ making port image thresholds =
 
 -- ---- the other calls
 abbrev frameNumber : Action → ℕ → ℕ
-frameNumber a value = saidFrame (answerOf a value) .refusal
+frameNumber a value = saidFrame (frameAnswer a value) .refusal
 
 taken : (b : Bool) (a : Action) (value : ℕ) → frameNumber a value ≡ 0 → frameNumber (when b a) value ≡ 0
 taken true a value e = e

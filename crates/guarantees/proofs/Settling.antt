@@ -5,14 +5,15 @@ use native.Mathlib.Omega.{arith}
 use mathlib.Core.Bool.{Bool, true, false, cond}
 use mathlib.Core.Path.{_≡_, refl, sym, ap, _∙_}
 use lib.ListN.{replicate}
-use Rattle.xenpak.specs.Calls.{tick, step, run}
-use Rattle.xenpak.specs.Settling.{ticks, due, settled, settle}
-use Rattle.xenpak.specs.declared.answers.Refusal.the-variants.{PoweredOff}
-use Rattle.xenpak.specs.declared.answers.SettleAnswer.{SettleAnswer}
-use Rattle.xenpak.specs.declared.answers.SettleAnswer.the-variants.{Ticks, Refused}
-use Rattle.xenpak.specs.declared.answers.Call.the-variants.{Tick}
+use Rattle.xenpak.specs.Calls.{tick}
+use Rattle.calls.specs.Calls.{step, run}
+use Rattle.settling.specs.Settling.{ticks, due, settled, settle}
+use Rattle.answers.specs.declared.Refusal.the-variants.{PoweredOff}
+use Rattle.answers.specs.declared.SettleAnswer.{SettleAnswer}
+use Rattle.answers.specs.declared.SettleAnswer.the-variants.{Ticks, Refused}
+use Rattle.calls.specs.declared.Call.the-variants.{Tick}
 use Rattle.xenpak.specs.declared.Module.{Module}
-use Rattle.xenpak.specs.declared.SettleOutcome.{SettleOutcome}
+use Rattle.settling.specs.declared.SettleOutcome.{SettleOutcome}
 use Rattle.guarantees.specs.Guarantees.{SettlingIsTicks}
 
 ticks-first : (n : ℕ) (m : Module) → ticks (suc n) m ≡ ticks n (tick m .next)

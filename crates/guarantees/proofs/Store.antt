@@ -19,10 +19,10 @@ use Rattle.nvr.specs.declared.command.Command.the-variants as command
 use Rattle.jobs.specs.Job as job
 use Rattle.jobs.specs.Job.{workOf, afterWork}
 use Rattle.jobs.specs.declared.Job.{Job as ModuleJob}
-use Rattle.jobs.specs.declared.bytes.Cut.{Cut}
-use Rattle.jobs.specs.declared.bytes.Cut.the-variants.{Clean, Struck}
-use Rattle.xenpak.specs.Calls.{step, run}
-use Rattle.xenpak.specs.declared.answers.Call.{Call}
+use Rattle.store.specs.declared.Cut.{Cut}
+use Rattle.store.specs.declared.Cut.the-variants.{Clean, Struck}
+use Rattle.calls.specs.Calls.{step, run}
+use Rattle.calls.specs.declared.Call.{Call}
 use Rattle.xenpak.specs.declared.Module.{Module}
 use Rattle.guarantees.specs.Reference.{Job, none, load, burn, Reference, withStore, withCopy, withAddress, advanced, tickRef, cutRef, struckStore, customerOffset, commandJob, commanded, readRef, incremented, stepRef}
 use Rattle.guarantees.specs.BurnLog.{Entry, tickLog, cutLog, stepLog, burnLog, applied}

@@ -26,25 +26,26 @@ use Rattle.nvr.specs.declared.command.Command.{Command}
 use Rattle.nvr.specs.declared.command.Command.the-variants as command
 use Rattle.jobs.specs.Job as job
 use Rattle.jobs.specs.Job.{wordOf, isBusy, workOf}
-use Rattle.jobs.specs.Bytes.{zeros}
-use Rattle.jobs.specs.Bytes as bytes
+use Rattle.store.specs.Bytes.{zeros}
+use Rattle.store.specs.Bytes as bytes
 use Rattle.jobs.specs.declared.Job.{Job as ModuleJob}
-use Rattle.jobs.specs.declared.bytes.Cut.{Cut}
-use Rattle.jobs.specs.declared.bytes.Cut.the-variants.{Clean, Struck}
+use Rattle.store.specs.declared.Cut.{Cut}
+use Rattle.store.specs.declared.Cut.the-variants.{Clean, Struck}
 use Rattle.dom.specs.Codes.{acceptable}
 use Rattle.dom.specs.Thresholds.{thresholdsOf}
 use Rattle.dom.specs.declared.Sample.{Sample}
 use Rattle.flags.specs.Flags.{flagsOf}
-use Rattle.lasi.specs.Alarms as alarms
+use Rattle.alarms.specs.Alarms as alarms
 use Rattle.controls.specs.Controls.{controlWritten}
 use Rattle.controls.specs.declared.Controls.{Controls}
-use Rattle.lasi.specs.declared.Alarms.{Alarms}
-use Rattle.lasi.specs.declared.Lines.{Lines}
+use Rattle.alarms.specs.declared.Alarms.{Alarms}
+use Rattle.alarms.specs.declared.Lines.{Lines}
 use Rattle.xenpak.specs.Frame.{moduleAfter, frame}
 use Rattle.xenpak.specs.Calls as calls
-use Rattle.xenpak.specs.Calls.{step, withPower, tickBy, sampleBy}
-use Rattle.xenpak.specs.declared.answers.Call.{Call}
-use Rattle.xenpak.specs.declared.answers.Call.the-variants as call
+use Rattle.calls.specs.Calls.{step}
+use Rattle.xenpak.specs.Calls.{withPower, tickBy, sampleBy}
+use Rattle.calls.specs.declared.Call.{Call}
+use Rattle.calls.specs.declared.Call.the-variants as call
 use Rattle.xenpak.specs.declared.Module.{Module}
 use Rattle.guarantees.specs.Reference.{Job, none, load, burn, Reference, reference, withCopy, withAddress, withControls, withWord, zeroCopy, zeroControls, started, withStatus, busy, shown, advanced, tickRef, cutRef, struckStore, customerOffset, commandJob, commandStatus, commanded, masks, writeRef, readRef, incremented, frameRef, onRef, offRef, stepRef}
 use Rattle.guarantees.specs.BurnLog.{Entry, tickLog, cutLog, onLog, stepLog}

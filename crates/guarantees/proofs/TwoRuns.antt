@@ -11,19 +11,20 @@ use lib.ListN.{length, getD, take}
 use lib.Seq.{take-take, getD-take}
 use Rattle.nvr.specs.Image.{sum, checksumRight}
 use Rattle.jobs.specs.Job.{workOf}
-use Rattle.jobs.specs.Bytes.{struckStore}
+use Rattle.store.specs.Bytes.{struckStore}
 use Rattle.jobs.specs.declared.Work.{Work}
 use Rattle.jobs.specs.declared.Work.the-variants as work
-use Rattle.jobs.specs.declared.bytes.Cut.the-variants.{Clean}
+use Rattle.store.specs.declared.Cut.the-variants.{Clean}
 use Rattle.dom.specs.Thresholds.{thresholdsOf, ordered}
 use Rattle.making.specs.Making.{fresh, refused, judgedBy, make}
-use Rattle.xenpak.specs.Calls.{step, run, powerOn, powerCut}
-use Rattle.xenpak.specs.declared.answers.Refusal.{Refusal}
-use Rattle.xenpak.specs.declared.answers.Refusal.the-variants.{Port, ImageLength, ThresholdsLength, Checksum, ThresholdOrder}
-use Rattle.xenpak.specs.declared.answers.Answer.{Answer}
-use Rattle.xenpak.specs.declared.answers.Answer.the-variants.{Accepted, Refused}
-use Rattle.xenpak.specs.declared.answers.Call.{Call}
-use Rattle.xenpak.specs.declared.answers.Call.the-variants.{PowerOn, Cut}
+use Rattle.calls.specs.Calls.{step, run}
+use Rattle.xenpak.specs.Calls.{powerOn, powerCut}
+use Rattle.answers.specs.declared.Refusal.{Refusal}
+use Rattle.answers.specs.declared.Refusal.the-variants.{Port, ImageLength, ThresholdsLength, Checksum, ThresholdOrder}
+use Rattle.answers.specs.declared.Answer.{Answer}
+use Rattle.answers.specs.declared.Answer.the-variants.{Accepted, Refused}
+use Rattle.calls.specs.declared.Call.{Call}
+use Rattle.calls.specs.declared.Call.the-variants.{PowerOn, Cut}
 use Rattle.xenpak.specs.declared.Module.{Module}
 use Rattle.xenpak.specs.declared.Outcome.{Outcome}
 use Rattle.guarantees.specs.Reference.{Reference, initial, reference, none, zeroControls, runRef}

@@ -12,20 +12,21 @@ use Rattle.jobs.specs.Job.{isBusy, workOf}
 use Rattle.jobs.specs.declared.Work.{Work}
 use Rattle.jobs.specs.declared.Work.the-variants as work
 use Rattle.dom.specs.Codes.{acceptable}
-use Rattle.jobs.specs.Bytes.{struckStore}
-use Rattle.lasi.specs.Alarms.{poweredAlarms, resetAlarms}
-use Rattle.xenpak.specs.Answers.{said}
-use Rattle.xenpak.specs.Frame.{frame, moduleAfter, answerOf}
+use Rattle.store.specs.Bytes.{struckStore}
+use Rattle.alarms.specs.Alarms.{poweredAlarms, resetAlarms}
+use Rattle.calls.specs.Calls.{said, step}
+use Rattle.xenpak.specs.Frame.{frame, moduleAfter}
+use Rattle.answers.specs.Answers.{frameAnswer, onAnswer, offAnswer, sampleAnswer, tickAnswer}
 use Rattle.xenpak.specs.Calls as calls
-use Rattle.xenpak.specs.Calls.{step, withPower, tickBy, sampleBy, onAnswer, offAnswer, sampleAnswer, tickAnswer}
-use Rattle.xenpak.specs.declared.answers.Refusal.{Refusal}
-use Rattle.xenpak.specs.declared.answers.Answer.the-variants as plain
-use Rattle.xenpak.specs.declared.answers.FrameAnswer.the-variants as frame-answer
-use Rattle.xenpak.specs.declared.answers.TickAnswer.the-variants as tick-answer
-use Rattle.xenpak.specs.declared.answers.CallAnswer.{CallAnswer}
-use Rattle.xenpak.specs.declared.answers.CallAnswer.the-variants.{Plain, Frame, Tick}
-use Rattle.xenpak.specs.declared.answers.Call.{Call}
-use Rattle.xenpak.specs.declared.answers.Call.the-variants as call
+use Rattle.xenpak.specs.Calls.{withPower, tickBy, sampleBy}
+use Rattle.answers.specs.declared.Refusal.{Refusal}
+use Rattle.answers.specs.declared.Answer.the-variants as plain
+use Rattle.answers.specs.declared.FrameAnswer.the-variants as frame-answer
+use Rattle.answers.specs.declared.TickAnswer.the-variants as tick-answer
+use Rattle.calls.specs.declared.CallAnswer.{CallAnswer}
+use Rattle.calls.specs.declared.CallAnswer.the-variants.{Plain, Frame, Tick}
+use Rattle.calls.specs.declared.Call.{Call}
+use Rattle.calls.specs.declared.Call.the-variants as call
 use Rattle.xenpak.specs.declared.Module.{Module}
 use Rattle.guarantees.specs.Guarantees.{RefusedUnchanged, SilentUnchanged, DroppedUnchanged}
 use Rattle.guarantees.proofs.Transition.{on-again, cut-off}
@@ -48,7 +49,7 @@ leaves (Tick (tick-answer.Refused why)) = true
 not-so : {A : Type 0} → false ≡ true → A
 not-so e = absurd (let z : _≡_ {A = ℕ} 0 1 = cc in omega arith)
 
-by-frame : (m : Module) (a : Action) (value : ℕ) → leaves (Frame (answerOf a value)) ≡ true → moduleAfter m a ≡ m
+by-frame : (m : Module) (a : Action) (value : ℕ) → leaves (Frame (frameAnswer a value)) ≡ true → moduleAfter m a ≡ m
 by-frame m action.Refused value e = refl
 by-frame m action.Silent value e = refl
 by-frame m (action.SetAddress a) value e = not-so e

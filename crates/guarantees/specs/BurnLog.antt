@@ -5,10 +5,10 @@ use Prim.Native.Nat.{ℕ}
 use mathlib.Core.Bool.{cond}
 use mathlib.Core.List.{List, [], _∷_, _++_}
 use lib.ListN.{getD, set}
-use Rattle.jobs.specs.declared.bytes.Cut.{Cut}
-use Rattle.jobs.specs.declared.bytes.Cut.the-variants.{Clean, Struck}
-use Rattle.xenpak.specs.declared.answers.Call.{Call}
-use Rattle.xenpak.specs.declared.answers.Call.the-variants as call
+use Rattle.store.specs.declared.Cut.{Cut}
+use Rattle.store.specs.declared.Cut.the-variants.{Clean, Struck}
+use Rattle.calls.specs.declared.Call.{Call}
+use Rattle.calls.specs.declared.Call.the-variants as call
 use Rattle.guarantees.specs.Reference.{Job, none, load, burn, Reference, stepRef}
 
 pub record Entry : Type 0 where

@@ -5,20 +5,20 @@ use mathlib.Core.Bool.{true}
 use mathlib.Core.List.{List, [], _∷_, _++_}
 use lib.IntN.{ℤ, pos, negsuc}
 use lib.ListN.{set, replicate}
-use Rattle.jobs.specs.declared.bytes.Cut.the-variants.{Struck}
+use Rattle.store.specs.declared.Cut.the-variants.{Struck}
 use Rattle.dom.specs.Readout.{tenthsOf}
 use Rattle.dom.specs.declared.Sample.{Sample}
-use Rattle.lasi.specs.declared.Lines.{Lines}
+use Rattle.alarms.specs.declared.Lines.{Lines}
 use Rattle.making.specs.Making.{make}
-use Rattle.xenpak.specs.Calls.{step}
-use Rattle.xenpak.specs.declared.answers.Answer.{Answer}
-use Rattle.xenpak.specs.declared.answers.Answer.the-variants as plain
-use Rattle.xenpak.specs.declared.answers.FrameAnswer.{FrameAnswer}
-use Rattle.xenpak.specs.declared.answers.FrameAnswer.the-variants.{Silent, Set, Written, Dropped, Data, Refused}
-use Rattle.xenpak.specs.declared.answers.CallAnswer.{CallAnswer}
-use Rattle.xenpak.specs.declared.answers.CallAnswer.the-variants as call-answer
-use Rattle.xenpak.specs.declared.answers.Call.{Call}
-use Rattle.xenpak.specs.declared.answers.Call.the-variants as call
+use Rattle.calls.specs.Calls.{step}
+use Rattle.answers.specs.declared.Answer.{Answer}
+use Rattle.answers.specs.declared.Answer.the-variants as plain
+use Rattle.answers.specs.declared.FrameAnswer.{FrameAnswer}
+use Rattle.answers.specs.declared.FrameAnswer.the-variants.{Silent, Set, Written, Dropped, Data, Refused}
+use Rattle.calls.specs.declared.CallAnswer.{CallAnswer}
+use Rattle.calls.specs.declared.CallAnswer.the-variants as call-answer
+use Rattle.calls.specs.declared.Call.{Call}
+use Rattle.calls.specs.declared.Call.the-variants as call
 use Rattle.xenpak.specs.declared.Module.{Module}
 use Rattle.xenpak.specs.declared.Outcome.{Outcome}
 

@@ -11,19 +11,19 @@ use Rattle.words.specs.Words.{bit}
 use Rattle.registers.specs.declared.Register.the-variants.{Status, Flags}
 use Rattle.nvr.specs.Image.{checksumRight}
 use Rattle.dom.specs.Thresholds.{thresholdsOf, ordered}
-use Rattle.jobs.specs.declared.bytes.Cut.the-variants.{Clean}
-use Rattle.lasi.specs.Alarms.{alarmLine}
-use Rattle.xenpak.specs.Answers.{Said, saidPlain, said}
+use Rattle.store.specs.declared.Cut.the-variants.{Clean}
+use Rattle.lasi.specs.Lasi.{alarmLine}
+use Rattle.answers.specs.Answers.{Said, saidPlain}
+use Rattle.calls.specs.Calls.{said, step, run}
 use Rattle.making.specs.Making.{blank, make}
 use Rattle.xenpak.specs.Frame.{valueAt}
-use Rattle.xenpak.specs.Calls.{step, run}
-use Rattle.xenpak.specs.Settling.{settle}
-use Rattle.xenpak.specs.declared.answers.Answer.the-variants.{Accepted}
-use Rattle.xenpak.specs.declared.answers.FrameAnswer.the-variants.{Silent, Dropped}
-use Rattle.xenpak.specs.declared.answers.SettleAnswer.the-variants.{Ticks}
-use Rattle.xenpak.specs.declared.answers.CallAnswer.the-variants.{Frame}
-use Rattle.xenpak.specs.declared.answers.Call.{Call}
-use Rattle.xenpak.specs.declared.answers.Call.the-variants.{PowerOn, Cut, ResetPin, Frame as Send, Tick, Lines, Sample}
+use Rattle.settling.specs.Settling.{settle}
+use Rattle.answers.specs.declared.Answer.the-variants.{Accepted}
+use Rattle.answers.specs.declared.FrameAnswer.the-variants.{Silent, Dropped}
+use Rattle.answers.specs.declared.SettleAnswer.the-variants.{Ticks}
+use Rattle.calls.specs.declared.CallAnswer.the-variants.{Frame}
+use Rattle.calls.specs.declared.Call.{Call}
+use Rattle.calls.specs.declared.Call.the-variants.{PowerOn, Cut, ResetPin, Frame as Send, Tick, Lines, Sample}
 use Rattle.xenpak.specs.declared.Module.{Module}
 use Rattle.xenpak.specs.declared.Outcome.{Outcome}
 use Rattle.guarantees.specs.Reference.{Reference, initial, runRef, stepRef, customerOffset}

@@ -19,9 +19,9 @@ use Rattle.dom.specs.Codes.{temperature, bias, transmit, receive}
 use Rattle.dom.specs.Thresholds.{thresholdsOf}
 use Rattle.dom.specs.declared.Sample.{Sample as Reading}
 use Rattle.flags.specs.Flags.{Side, high, low, alarm, warning, codesOf, crossed}
-use Rattle.lasi.specs.declared.Lines.{Lines}
-use Rattle.xenpak.specs.declared.answers.Call.{Call}
-use Rattle.xenpak.specs.declared.answers.Call.the-variants as call
+use Rattle.alarms.specs.declared.Lines.{Lines}
+use Rattle.calls.specs.declared.Call.{Call}
+use Rattle.calls.specs.declared.Call.the-variants as call
 use Rattle.guarantees.specs.Reference.{Reference, stepRef}
 
 -- ---- events: what an accepted call is to the alarms

@@ -14,10 +14,10 @@ use Rattle.mdio.specs.declared.Request.the-variants as request
 use Rattle.registers.specs.Map.{registerAt}
 use Rattle.registers.specs.declared.Register.{Register}
 use Rattle.registers.specs.declared.Register.the-variants.{PmaControl, NvrControl, Copy, Customer, Control, Status, Threshold, Sample, Flags, Unlisted}
-use Rattle.jobs.specs.declared.bytes.Cut.{Cut}
-use Rattle.jobs.specs.declared.bytes.Cut.the-variants.{Clean, Struck}
-use Rattle.xenpak.specs.declared.answers.Call.{Call}
-use Rattle.xenpak.specs.declared.answers.Call.the-variants as call
+use Rattle.store.specs.declared.Cut.{Cut}
+use Rattle.store.specs.declared.Cut.the-variants.{Clean, Struck}
+use Rattle.calls.specs.declared.Call.{Call}
+use Rattle.calls.specs.declared.Call.the-variants as call
 
 -- a job with the offset due and the last one
 pub data Job : Type 0 where

@@ -1,3 +1,2 @@
 -- What the contracts of `jobs` cite.
 pub mod Job
-pub mod Bytes

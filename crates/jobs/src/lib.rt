@@ -1,9 +1,6 @@
 // Register 8000, and the job that a command starts there: a load or a burn, one byte a tick.
 ghost use mathlib.Core.Path.{_≡_};
 ghost use Rattle.jobs.specs.Job.{noJob, firstLoad, commandJob, jobOf, isBusy, statusOf, wordOf, pmaWord, workOf, advanced, afterWork, afterRead, jobAfter, startedJob};
-
-pub mod bytes;
-
 use action::Action;
 use nvr::command::Command;
 use nvr::command::kept_bits;

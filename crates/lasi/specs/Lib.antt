@@ -1,2 +1,2 @@
 -- What the contracts of `lasi` cite.
-pub mod Alarms
+pub mod Lasi

@@ -1,41 +1,11 @@
-// The alarm registers and the link status alarm interrupt (LASI).
+// What the alarm registers read, and the link status alarm interrupt (LASI), the alarm line.
 ghost use mathlib.Core.Path.{_≡_};
 ghost use mathlib.Core.List.{[], _∷_};
 ghost use Rattle.words.specs.Words.{ofBits};
-ghost use Rattle.lasi.specs.Alarms.{differ, noAlarms, rxAlarm, txAlarm, lasiStatus, statusAt, flagsAt, alarmLine, statusCleared, flagsCleared, afterRead, restarted, controlled, alarmsAfter, poweredAlarms, resetAlarms, linesTaken, afterLines, flagsTaken, afterSample};
-use action::Action;
-use controls::Controls;
-use flags::Flags;
-use latch::Latch;
-use registers::Register;
+ghost use Rattle.lasi.specs.Lasi.{rxAlarm, txAlarm, lasiStatus, alarmLine, statusAt, flagsAt};
+use alarms::Alarms;
 use words::of_bits;
 use words::share;
-
-#[repr(C)]
-pub struct Alarms {
-    pub controls: Controls,
-    // Receive and transmit faults.
-    pub rxfaults: Latch,
-    pub txfaults: Latch,
-    // A070, A071, A074, A075.
-    pub txalarm: Latch,
-    pub rxalarm: Latch,
-    pub txwarning: Latch,
-    pub rxwarning: Latch,
-    // The link is up; and the link alarm, bit 0 of 9005: the link changed.
-    pub link: bool,
-    pub changed: bool,
-}
-
-// What a lines call gives: receive and transmit faults, and the three link levels, signal detect, block lock and lane
-// alignment.
-pub struct Lines {
-    pub receive: u16,
-    pub transmit: u16,
-    pub signal: bool,
-    pub block: bool,
-    pub lanes: bool,
-}
 
 // The word of bits 0, 1 and 2.
 fn low_bits(b0: bool, b1: bool, b2: bool) -> u16
@@ -44,265 +14,67 @@ fn low_bits(b0: bool, b1: bool, b2: bool) -> u16
     of_bits(b0, b1, b2, false, false, false, false, false)
 }
 
-fn differ(a: bool, b: bool) -> bool
-    ensures { λ r. ⌜ r ≡ differ a b ⌝ }
+// 9003, RX_ALARM status: bit 1 is whether A071 and 9007 share a bit.
+fn rx_alarm(a: Alarms) -> u16
+    ensures { λ r. ⌜ r ≡ rxAlarm a ⌝ }
 {
-    if a { !b } else { b }
+    let faults = a.rxfaults.value();
+    let flags = a.rxalarm.value();
+    let flagged = share(flags, a.controls.rxflag);
+    faults | low_bits(false, flagged, false)
 }
 
-impl Alarms {
-    pub fn none() -> Alarms
-        ensures { λ r. ⌜ r ≡ noAlarms ⌝ }
-    {
-        Alarms {
-            controls: Controls::zero(),
-            rxfaults: Latch::none(),
-            txfaults: Latch::none(),
-            txalarm: Latch::none(),
-            rxalarm: Latch::none(),
-            txwarning: Latch::none(),
-            rxwarning: Latch::none(),
-            link: false,
-            changed: false,
-        }
-    }
+// 9004, TX_ALARM status: bit 1 is whether A070 and 9006 share a bit.
+fn tx_alarm(a: Alarms) -> u16
+    ensures { λ r. ⌜ r ≡ txAlarm a ⌝ }
+{
+    let faults = a.txfaults.value();
+    let flags = a.txalarm.value();
+    let flagged = share(flags, a.controls.txflag);
+    faults | low_bits(false, flagged, false)
+}
 
-    // 9003, RX_ALARM status: bit 1 is whether A071 and 9007 share a bit.
-    fn rx_alarm(self) -> u16
-        ensures { λ r. ⌜ r ≡ rxAlarm self ⌝ }
-    {
-        let faults = self.rxfaults.value();
-        let flags = self.rxalarm.value();
-        let flagged = share(flags, self.controls.rxflag);
-        faults | low_bits(false, flagged, false)
-    }
+// 9005, LASI status: bit 2 is whether 9003 and 9000 share a bit, bit 1 whether 9004 and 9001 do, bit 0 the link alarm.
+fn lasi_status(a: Alarms) -> u16
+    ensures { λ r. ⌜ r ≡ lasiStatus a ⌝ }
+{
+    let receive = rx_alarm(a);
+    let transmit = tx_alarm(a);
+    let rx = share(receive, a.controls.rxalarm);
+    let tx = share(transmit, a.controls.txalarm);
+    low_bits(a.changed, tx, rx)
+}
 
-    // 9004, TX_ALARM status: bit 1 is whether A070 and 9006 share a bit.
-    fn tx_alarm(self) -> u16
-        ensures { λ r. ⌜ r ≡ txAlarm self ⌝ }
-    {
-        let faults = self.txfaults.value();
-        let flags = self.txalarm.value();
-        let flagged = share(flags, self.controls.txflag);
-        faults | low_bits(false, flagged, false)
-    }
+// The alarm line: powered, and 9005 and 9002 share a bit.
+pub fn line(a: Alarms, powered: bool) -> bool
+    ensures { λ r. ⌜ r ≡ alarmLine powered a ⌝ }
+{
+    let status = lasi_status(a);
+    let enabled = share(status, a.controls.lasi);
+    powered & enabled
+}
 
-    // 9005, LASI status: bit 2 is whether 9003 and 9000 share a bit, bit 1 whether 9004 and 9001 do, bit 0 the link alarm.
-    fn lasi_status(self) -> u16
-        ensures { λ r. ⌜ r ≡ lasiStatus self ⌝ }
-    {
-        let receive = self.rx_alarm();
-        let transmit = self.tx_alarm();
-        let rx = share(receive, self.controls.rxalarm);
-        let tx = share(transmit, self.controls.txalarm);
-        low_bits(self.changed, tx, rx)
+// 9003, 9004, 9005.
+pub fn status_at(a: Alarms, i: u8) -> u16
+    ensures { λ r. ⌜ r ≡ statusAt a i ⌝ }
+{
+    match i {
+        0 => rx_alarm(a),
+        1 => tx_alarm(a),
+        2 => lasi_status(a),
+        _ => 0,
     }
+}
 
-    // The alarm line: powered, and 9005 and 9002 share a bit.
-    pub fn line(self, powered: bool) -> bool
-        ensures { λ r. ⌜ r ≡ alarmLine powered self ⌝ }
-    {
-        let status = self.lasi_status();
-        let enabled = share(status, self.controls.lasi);
-        powered & enabled
-    }
-
-    // 9003, 9004, 9005.
-    pub fn status_at(self, i: u8) -> u16
-        ensures { λ r. ⌜ r ≡ statusAt self i ⌝ }
-    {
-        match i {
-            0 => self.rx_alarm(),
-            1 => self.tx_alarm(),
-            2 => self.lasi_status(),
-            _ => 0,
-        }
-    }
-
-    // A070, A071, A074, A075.
-    pub fn flags_at(self, i: u8) -> u16
-        ensures { λ r. ⌜ r ≡ flagsAt self i ⌝ }
-    {
-        match i {
-            0 => self.txalarm.value(),
-            1 => self.rxalarm.value(),
-            2 => self.txwarning.value(),
-            3 => self.rxwarning.value(),
-            _ => 0,
-        }
-    }
-
-    // A read of 9003 or 9004 clears its faults, one of 9005 the link alarm.
-    fn status_cleared(mut self, i: u8) -> Alarms
-        ensures { λ r. ⌜ r ≡ statusCleared self i ⌝ }
-    {
-        match i {
-            0 => {
-                self.rxfaults.since = 0;
-                self
-            }
-            1 => {
-                self.txfaults.since = 0;
-                self
-            }
-            2 => {
-                self.changed = false;
-                self
-            }
-            _ => self,
-        }
-    }
-
-    // A read of A070, A071, A074 or A075 clears its flags.
-    fn flags_cleared(mut self, i: u8) -> Alarms
-        ensures { λ r. ⌜ r ≡ flagsCleared self i ⌝ }
-    {
-        match i {
-            0 => {
-                self.txalarm.since = 0;
-                self
-            }
-            1 => {
-                self.rxalarm.since = 0;
-                self
-            }
-            2 => {
-                self.txwarning.since = 0;
-                self
-            }
-            3 => {
-                self.rxwarning.since = 0;
-                self
-            }
-            _ => self,
-        }
-    }
-
-    // After a read of a register.
-    fn after_read(self, register: Register) -> Alarms
-        ensures { λ r. ⌜ r ≡ afterRead self register ⌝ }
-    {
-        match register {
-            Register::PmaControl => self,
-            Register::NvrControl => self,
-            Register::Copy(_) => self,
-            Register::Customer(_) => self,
-            Register::Control(_) => self,
-            Register::Status(i) => self.status_cleared(i),
-            Register::Threshold(_) => self,
-            Register::Sample(_, _) => self,
-            Register::Flags(i) => self.flags_cleared(i),
-            Register::Unlisted => self,
-        }
-    }
-
-    // A reset keeps the lines: the latest faults and the link.
-    fn restarted(self) -> Alarms
-        ensures { λ r. ⌜ r ≡ restarted self ⌝ }
-    {
-        Alarms {
-            controls: Controls::zero(),
-            rxfaults: self.rxfaults.cleared(),
-            txfaults: self.txfaults.cleared(),
-            txalarm: Latch::none(),
-            rxalarm: Latch::none(),
-            txwarning: Latch::none(),
-            rxwarning: Latch::none(),
-            link: self.link,
-            changed: false,
-        }
-    }
-
-    // A control takes a word.
-    fn controlled(mut self, i: u8, word: u16) -> Alarms
-        ensures { λ r. ⌜ r ≡ controlled self i word ⌝ }
-    {
-        let controls = self.controls;
-        let written = controls.written(i, word);
-        self.controls = written;
-        self
-    }
-
-    // After a frame.
-    pub fn after(self, action: Action) -> Alarms
-        ensures { λ r. ⌜ r ≡ alarmsAfter self action ⌝ }
-    {
-        match action {
-            Action::Refused => self,
-            Action::Silent => self,
-            Action::SetAddress(_) => self,
-            Action::Dropped => self,
-            Action::Reset => self.restarted(),
-            Action::Command(_) => self,
-            Action::Customer(_, _) => self,
-            Action::Control(i, word) => self.controlled(i, word),
-            Action::Read(register, _) => self.after_read(register),
-        }
-    }
-
-    // After power-on, if it is accepted: the lines are zero too.
-    pub fn powered(self, accepted: bool) -> Alarms
-        ensures { λ r. ⌜ r ≡ poweredAlarms accepted self ⌝ }
-    {
-        if accepted { Alarms::none() } else { self }
-    }
-
-    // After the reset pin, if it is accepted.
-    pub fn reset(self, accepted: bool) -> Alarms
-        ensures { λ r. ⌜ r ≡ resetAlarms accepted self ⌝ }
-    {
-        if accepted { self.restarted() } else { self }
-    }
-
-    // Faults under their masks; the link is up when all three levels are.
-    fn lines_taken(mut self, lines: Lines) -> Alarms
-        ensures { λ r. ⌜ r ≡ linesTaken self lines ⌝ }
-    {
-        let rx = self.rxfaults.fed(lines.receive & 0x0039);
-        let tx = self.txfaults.fed(lines.transmit & 0x03d9);
-        let up = lines.signal & lines.block & lines.lanes;
-        let moved = differ(self.link, up);
-        self.changed = self.changed | moved;
-        self.rxfaults = rx;
-        self.txfaults = tx;
-        self.link = up;
-        self
-    }
-
-    // After a lines call, if it is accepted.
-    pub fn lines(self, accepted: bool, lines: Lines) -> Alarms
-        ensures { λ r. ⌜ r ≡ afterLines accepted self lines ⌝ }
-    {
-        if accepted {
-            self.lines_taken(lines)
-        } else {
-            self
-        }
-    }
-
-    // The flags of a sample.
-    fn flags_taken(mut self, flags: Flags) -> Alarms
-        ensures { λ r. ⌜ r ≡ flagsTaken self flags ⌝ }
-    {
-        let txalarm = self.txalarm.fed(flags.txalarm);
-        let rxalarm = self.rxalarm.fed(flags.rxalarm);
-        let txwarning = self.txwarning.fed(flags.txwarning);
-        let rxwarning = self.rxwarning.fed(flags.rxwarning);
-        self.txalarm = txalarm;
-        self.rxalarm = rxalarm;
-        self.txwarning = txwarning;
-        self.rxwarning = rxwarning;
-        self
-    }
-
-    // After a sample, if it is accepted.
-    pub fn sampled(self, accepted: bool, flags: Flags) -> Alarms
-        ensures { λ r. ⌜ r ≡ afterSample accepted self flags ⌝ }
-    {
-        if accepted {
-            self.flags_taken(flags)
-        } else {
-            self
-        }
+// A070, A071, A074, A075.
+pub fn flags_at(a: Alarms, i: u8) -> u16
+    ensures { λ r. ⌜ r ≡ flagsAt a i ⌝ }
+{
+    match i {
+        0 => a.txalarm.value(),
+        1 => a.rxalarm.value(),
+        2 => a.txwarning.value(),
+        3 => a.rxwarning.value(),
+        _ => 0,
     }
 }

@@ -7,14 +7,14 @@ use lib.Dec.{eqb, ltb}
 use lib.ListN.{length}
 use Rattle.nvr.specs.Image.{checksumRight}
 use Rattle.jobs.specs.Job.{noJob}
-use Rattle.jobs.specs.Bytes.{zeros}
+use Rattle.store.specs.Bytes.{zeros}
 use Rattle.dom.specs.Thresholds.{thresholdsOf, ordered}
 use Rattle.monitor.specs.Monitor.{noMonitor}
-use Rattle.lasi.specs.Alarms.{noAlarms}
+use Rattle.alarms.specs.Alarms.{noAlarms}
 use Rattle.bus.specs.Bus.{noBus}
-use Rattle.xenpak.specs.declared.answers.Refusal.{Refusal}
-use Rattle.xenpak.specs.declared.answers.Refusal.the-variants.{Port, ImageLength, ThresholdsLength, Checksum, ThresholdOrder}
-use Rattle.xenpak.specs.declared.answers.Answer.the-variants.{Accepted, Refused}
+use Rattle.answers.specs.declared.Refusal.{Refusal}
+use Rattle.answers.specs.declared.Refusal.the-variants.{Port, ImageLength, ThresholdsLength, Checksum, ThresholdOrder}
+use Rattle.answers.specs.declared.Answer.the-variants.{Accepted, Refused}
 use Rattle.xenpak.specs.declared.Module.{Module}
 use Rattle.xenpak.specs.declared.Outcome.{Outcome}
 

@@ -2,17 +2,17 @@
 ghost use mathlib.Core.Path.{_≡_};
 ghost use lib.ListN.{length};
 ghost use Rattle.making.specs.Making.{fresh, refused, judged, judgedBy, make};
+use alarms::Alarms;
+use answers::Answer;
+use answers::Refusal;
 use bus::Bus;
 use dom::thresholds::ordered;
 use dom::thresholds::thresholds_of;
 use jobs::Job;
-use lasi::Alarms;
 use monitor::Monitor;
 use nvr::image::checksum_right;
 use xenpak::Module;
 use xenpak::Outcome;
-use xenpak::answers::Answer;
-use xenpak::answers::Refusal;
 
 // The bytes of a slice of 256.
 fn bytes256(bytes: &[u8]) -> [u8; 256]

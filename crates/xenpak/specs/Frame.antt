@@ -4,18 +4,16 @@ use Prim.Native.Nat.{ℕ}
 use lib.ListN.{getD}
 use Rattle.registers.specs.declared.Register.{Register}
 use Rattle.registers.specs.declared.Register.the-variants as register
-use Rattle.action.specs.Action.{actionOf}
+use Rattle.action.specs.Action.{actionOf, registerOf}
 use Rattle.action.specs.declared.Action.{Action}
-use Rattle.action.specs.declared.Action.the-variants as action
 use Rattle.jobs.specs.Job.{isBusy, wordOf, pmaWord, jobAfter}
-use Rattle.jobs.specs.Bytes.{writtenCopy}
+use Rattle.store.specs.Bytes.{writtenCopy}
 use Rattle.monitor.specs.Monitor.{valueOf, monitorAfter}
 use Rattle.controls.specs.Controls.{controlAt}
-use Rattle.lasi.specs.Alarms.{statusAt, flagsAt, alarmsAfter}
+use Rattle.alarms.specs.Alarms.{alarmsAfter}
+use Rattle.lasi.specs.Lasi.{statusAt, flagsAt}
+use Rattle.answers.specs.Answers.{frameAnswer}
 use Rattle.bus.specs.Bus.{busAfter}
-use Rattle.xenpak.specs.declared.answers.Refusal.the-variants.{PoweredOff}
-use Rattle.xenpak.specs.declared.answers.FrameAnswer.{FrameAnswer}
-use Rattle.xenpak.specs.declared.answers.FrameAnswer.the-variants.{Silent, Set, Written, Dropped, Data, Refused}
 use Rattle.xenpak.specs.declared.Module.{Module}
 use Rattle.xenpak.specs.declared.FrameOutcome.{FrameOutcome}
 
@@ -45,30 +43,6 @@ valueAt m (register.Sample quantity low) = valueOf (m .monitor) quantity low
 valueAt m (register.Flags i) = flagsAt (m .alarms) i
 valueAt m register.Unlisted = 0
 
--- the register that a frame reads
-abbrev pub registerOf : Action → Register
-registerOf action.Refused = register.Unlisted
-registerOf action.Silent = register.Unlisted
-registerOf (action.SetAddress a) = register.Unlisted
-registerOf action.Dropped = register.Unlisted
-registerOf action.Reset = register.Unlisted
-registerOf (action.Command word) = register.Unlisted
-registerOf (action.Customer offset byte) = register.Unlisted
-registerOf (action.Control i word) = register.Unlisted
-registerOf (action.Read r increment) = r
-
--- the answer of a frame that reads this value
-abbrev pub answerOf : Action → ℕ → FrameAnswer
-answerOf action.Refused value = Refused PoweredOff
-answerOf action.Silent value = Silent
-answerOf (action.SetAddress a) value = Set
-answerOf action.Dropped value = Dropped
-answerOf action.Reset value = Written
-answerOf (action.Command word) value = Written
-answerOf (action.Customer offset byte) value = Written
-answerOf (action.Control i word) value = Written
-answerOf (action.Read r increment) value = Data value
-
 -- each part after a frame
 abbrev pub moduleAfter : Module → Action → Module
 moduleAfter m a =
@@ -86,7 +60,7 @@ moduleAfter m a =
 
 -- a read gives the value before it clears
 abbrev pub frameBy : Module → Action → FrameOutcome
-frameBy m a = record { next = moduleAfter m a; answer = answerOf a (valueAt m (registerOf a)) }
+frameBy m a = record { next = moduleAfter m a; answer = frameAnswer a (valueAt m (registerOf a)) }
 
 unfoldable pub frame : Module → ℕ → FrameOutcome
 frame m word = frameBy m (actionOf (m .powered) (m .port) (m .bus .address) (isBusy (m .job)) word)

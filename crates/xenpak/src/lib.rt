@@ -1,41 +1,36 @@
 // The XENPAK management core: the module's record and its calls. A call is decided once, then each part of the record
 // reacts to the decision; no branch holds the record.
 ghost use mathlib.Core.Path.{_≡_};
-ghost use mathlib.Core.Bool.{true};
 ghost use lib.ListN.{getD};
-ghost use Rattle.lasi.specs.Alarms.{alarmLine};
-ghost use Rattle.xenpak.specs.Frame.{byteAt, valueAt, registerOf, answerOf, moduleAfter, frame};
-ghost use Rattle.xenpak.specs.Calls.{onAnswer, offAnswer, sampleAnswer, tickAnswer, plain, framed, ticked, started, powerOn, powerCut, resetPin, tick, lines, sample, step};
-ghost use Rattle.xenpak.specs.Settling.{settled, settle};
-
-pub mod answers;
-
-use crate::answers::Answer;
-use crate::answers::Call;
-use crate::answers::CallAnswer;
-use crate::answers::FrameAnswer;
-use crate::answers::Refusal;
-use crate::answers::SettleAnswer;
-use crate::answers::TickAnswer;
+ghost use Rattle.lasi.specs.Lasi.{alarmLine};
+ghost use Rattle.action.specs.Action.{registerOf};
+ghost use Rattle.xenpak.specs.Frame.{byteAt, valueAt, moduleAfter, frame};
+ghost use Rattle.xenpak.specs.Calls.{started, powerOn, powerCut, resetPin, tick, lines, sample};
 use action::Action;
 use action::decide;
+use alarms::Alarms;
+use alarms::Lines;
+use answers::Answer;
+use answers::FrameAnswer;
+use answers::TickAnswer;
 use bus::Bus;
 use dom::Sample;
 use dom::acceptable;
+use dom::thresholds;
 use dom::thresholds::thresholds_of;
 use flags::flags_of;
 use jobs::Job;
-use jobs::Work;
-use jobs::bytes::Cut;
-use jobs::bytes::byte_at;
-use jobs::bytes::move_byte;
-use jobs::bytes::start_copy;
-use jobs::bytes::strike;
-use jobs::bytes::write_copy;
-use lasi::Alarms;
-use lasi::Lines;
+use lasi::flags_at;
+use lasi::line;
+use lasi::status_at;
 use monitor::Monitor;
 use registers::Register;
+use store::Cut;
+use store::byte_at;
+use store::move_byte;
+use store::start_copy;
+use store::strike;
+use store::write_copy;
 
 #[repr(C)]
 pub struct Module {
@@ -66,105 +61,6 @@ pub struct TickOutcome {
     pub answer: TickAnswer,
 }
 
-pub struct SettleOutcome {
-    pub next: Module,
-    pub answer: SettleAnswer,
-}
-
-pub struct CallOutcome {
-    pub next: Module,
-    pub answer: CallAnswer,
-}
-
-// The answer of a call that needs power.
-fn on_answer(powered: bool) -> Answer
-    ensures { λ r. ⌜ r ≡ onAnswer powered ⌝ }
-{
-    if powered {
-        Answer::Accepted
-    } else {
-        Answer::Refused(Refusal::PoweredOff)
-    }
-}
-
-// The answer of power-on.
-fn off_answer(powered: bool) -> Answer
-    ensures { λ r. ⌜ r ≡ offAnswer powered ⌝ }
-{
-    if powered {
-        Answer::Refused(Refusal::PoweredOn)
-    } else {
-        Answer::Accepted
-    }
-}
-
-// The answer of a sample: 7 precedes 6.
-fn sample_answer(powered: bool, right: bool) -> Answer
-    ensures { λ r. ⌜ r ≡ sampleAnswer powered right ⌝ }
-{
-    if powered {
-        if right {
-            Answer::Accepted
-        } else {
-            Answer::Refused(Refusal::Temperature)
-        }
-    } else {
-        Answer::Refused(Refusal::PoweredOff)
-    }
-}
-
-// The answer of a tick that moves this byte.
-fn tick_answer(work: Work, byte: u8) -> TickAnswer
-    ensures { λ r. ⌜ r ≡ tickAnswer work byte ⌝ }
-{
-    match work {
-        Work::Refused => TickAnswer::Refused(Refusal::PoweredOff),
-        Work::Nothing => TickAnswer::Nothing,
-        Work::Load(offset) => TickAnswer::Loaded(offset, byte),
-        Work::Burn(offset) => TickAnswer::Burned(offset, byte),
-    }
-}
-
-// The register that a frame reads.
-fn register_of(action: Action) -> Register
-    ensures { λ r. ⌜ r ≡ registerOf action ⌝ }
-{
-    match action {
-        Action::Refused => Register::Unlisted,
-        Action::Silent => Register::Unlisted,
-        Action::SetAddress(_) => Register::Unlisted,
-        Action::Dropped => Register::Unlisted,
-        Action::Reset => Register::Unlisted,
-        Action::Command(_) => Register::Unlisted,
-        Action::Customer(_, _) => Register::Unlisted,
-        Action::Control(_, _) => Register::Unlisted,
-        Action::Read(register, _) => register,
-    }
-}
-
-// The answer of a frame that reads this value.
-fn answer_of(action: Action, value: u16) -> FrameAnswer
-    ensures { λ r. ⌜ r ≡ answerOf action value ⌝ }
-{
-    match action {
-        Action::Refused => FrameAnswer::Refused(Refusal::PoweredOff),
-        Action::Silent => FrameAnswer::Silent,
-        Action::SetAddress(_) => FrameAnswer::Set,
-        Action::Dropped => FrameAnswer::Dropped,
-        Action::Reset => FrameAnswer::Written,
-        Action::Command(_) => FrameAnswer::Written,
-        Action::Customer(_, _) => FrameAnswer::Written,
-        Action::Control(_, _) => FrameAnswer::Written,
-        Action::Read(_, _) => FrameAnswer::Data(value),
-    }
-}
-
-fn threshold_at(thresholds: [u8; 40], k: u8) -> u8
-    ensures { λ r. ⌜ r ≡ getD thresholds k 0 ⌝ }
-{
-    if k < 40 { thresholds[k as usize] } else { 0 }
-}
-
 // Every call but power-on is refused with 7 when the module is off; the reads are never refused.
 impl Module {
     // What power-on and reset share, if it is accepted: a first load starts, with all at zero but port, store,
@@ -193,7 +89,7 @@ impl Module {
         ensures { λ r. ⌜ r ≡ powerOn self ⌝ }
     {
         let powered = self.powered;
-        let answer = off_answer(powered);
+        let answer = Answer::off(powered);
         let alarms = self.alarms;
         let silent = alarms.powered(!powered);
         self.powered = true;
@@ -209,7 +105,7 @@ impl Module {
         ensures { λ r. ⌜ r ≡ resetPin self ⌝ }
     {
         let powered = self.powered;
-        let answer = on_answer(powered);
+        let answer = Answer::on(powered);
         let alarms = self.alarms;
         let cleared = alarms.reset(powered);
         let next = self.started(powered, cleared);
@@ -224,7 +120,7 @@ impl Module {
         ensures { λ r. ⌜ r ≡ powerCut self cut ⌝ }
     {
         let powered = self.powered;
-        let answer = on_answer(powered);
+        let answer = Answer::on(powered);
         let job = self.job;
         let work = job.work(powered);
         let mut store = self.store;
@@ -251,7 +147,7 @@ impl Module {
         let byte = move_byte(&mut store, &mut copy, work);
         self.store = store;
         self.copy = copy;
-        let answer = tick_answer(work, byte);
+        let answer = TickAnswer::of(work, byte);
         TickOutcome {
             next: self,
             answer: answer,
@@ -263,7 +159,7 @@ impl Module {
         ensures { λ r. ⌜ r ≡ lines self given ⌝ }
     {
         let powered = self.powered;
-        let answer = on_answer(powered);
+        let answer = Answer::on(powered);
         let alarms = self.alarms;
         let next_alarms = alarms.lines(powered, given);
         self.alarms = next_alarms;
@@ -279,7 +175,7 @@ impl Module {
     {
         let powered = self.powered;
         let right = acceptable(given.temperature);
-        let answer = sample_answer(powered, right);
+        let answer = Answer::sample(powered, right);
         let accepted = powered & right;
         let thresholds = self.thresholds;
         let table = thresholds_of(&thresholds);
@@ -324,7 +220,7 @@ impl Module {
                 Register::Status(_) => 0,
                 Register::Threshold(k) => {
                     let thresholds = self.thresholds;
-                    threshold_at(thresholds, k)
+                    thresholds::byte_at(thresholds, k)
                 }
                 Register::Sample(_, _) => 0,
                 Register::Flags(_) => 0,
@@ -356,7 +252,7 @@ impl Module {
             }
             Register::Status(i) => {
                 let alarms = self.alarms;
-                alarms.status_at(i)
+                status_at(alarms, i)
             }
             Register::Threshold(_) => byte as u16,
             Register::Sample(quantity, low) => {
@@ -365,7 +261,7 @@ impl Module {
             }
             Register::Flags(i) => {
                 let alarms = self.alarms;
-                alarms.flags_at(i)
+                flags_at(alarms, i)
             }
             Register::Unlisted => 0,
         }
@@ -401,64 +297,13 @@ impl Module {
         let busy = job.busy();
         let action = decide(self.powered, self.port, self.bus.address, busy, word);
         let byte = self.byte(action);
-        let register = register_of(action);
+        let register = action.register();
         let value = self.value(register, byte);
-        let answer = answer_of(action, value);
+        let answer = FrameAnswer::of(action, value);
         let next = self.after(action);
         FrameOutcome {
             next: next,
             answer: answer,
-        }
-    }
-
-    // Any call of the lists.
-    pub fn call(self, call: Call) -> CallOutcome
-        ensures { λ r. ⌜ r ≡ step self call ⌝ }
-    {
-        match call {
-            Call::PowerOn => plain(self.power_on()),
-            Call::Cut(cut) => plain(self.power_cut(cut)),
-            Call::ResetPin => plain(self.reset_pin()),
-            Call::Frame(word) => framed(self.frame(word)),
-            Call::Tick => ticked(self.tick()),
-            Call::Lines(lines) => plain(self.lines(lines)),
-            Call::Sample(sample) => plain(self.sample(sample)),
-        }
-    }
-
-    // Ticks of a powered module until no job is due or the budget is spent.
-    fn settled(self, budget: u32) -> SettleOutcome
-        requires { ⌜ self .powered ≡ true ⌝ }
-        ensures { λ r. ⌜ r ≡ settled self budget ⌝ }
-    {
-        let mut m = self;
-        let mut done: u32 = 0;
-        while done < budget {
-            let job = m.job;
-            if job.busy() {
-                let ticked = m.tick();
-                m = ticked.next;
-                done += 1;
-            } else {
-                break;
-            }
-        }
-        SettleOutcome {
-            next: m,
-            answer: SettleAnswer::Ticks(done),
-        }
-    }
-
-    // Ticks until no job is due or the budget is spent, and counts them.
-    pub fn settle(self, budget: u32) -> SettleOutcome
-        ensures { λ r. ⌜ r ≡ settle self budget ⌝ }
-    {
-        if self.powered {
-            return self.settled(budget);
-        }
-        SettleOutcome {
-            next: self,
-            answer: SettleAnswer::Refused(Refusal::PoweredOff),
         }
     }
 
@@ -467,7 +312,7 @@ impl Module {
         ensures { λ r. ⌜ r ≡ alarmLine (self .powered) (self .alarms) ⌝ }
     {
         let alarms = self.alarms;
-        alarms.line(self.powered)
+        line(alarms, self.powered)
     }
 
     // Data answers since power-on or reset.
@@ -483,38 +328,5 @@ impl Module {
     {
         let store = self.store;
         byte_at(&store, offset)
-    }
-}
-
-fn plain(outcome: Outcome) -> CallOutcome
-    ensures { λ r. ⌜ r ≡ plain outcome ⌝ }
-{
-    let next = outcome.next;
-    let answer = outcome.answer;
-    CallOutcome {
-        next: next,
-        answer: CallAnswer::Plain(answer),
-    }
-}
-
-fn framed(outcome: FrameOutcome) -> CallOutcome
-    ensures { λ r. ⌜ r ≡ framed outcome ⌝ }
-{
-    let next = outcome.next;
-    let answer = outcome.answer;
-    CallOutcome {
-        next: next,
-        answer: CallAnswer::Frame(answer),
-    }
-}
-
-fn ticked(outcome: TickOutcome) -> CallOutcome
-    ensures { λ r. ⌜ r ≡ ticked outcome ⌝ }
-{
-    let next = outcome.next;
-    let answer = outcome.answer;
-    CallOutcome {
-        next: next,
-        answer: CallAnswer::Tick(answer),
     }
 }

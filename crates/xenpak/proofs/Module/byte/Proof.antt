@@ -44,7 +44,7 @@ byte-spec =
     (λ c. rw (c .byte-at2 .ensures, c .before .before .before .before .before .before .before .action .given .1, c .before .before .before .before .register2 .given .1))
     (λ c. rw (c .before .before .before .action .given .1, c .enum-told11 .given .1))
     (λ c. rw (c .before .before .before .action .given .1, c .enum-told12 .given .1))
-    (λ c. rw (c .threshold-at .ensures, c .before .before .before .before .before .before .action .given .1, c .before .before .before .register3 .given .1))
+    (λ c. rw (c .byte-at3 .ensures, c .before .before .before .before .before .before .action .given .1, c .before .before .before .register3 .given .1))
     (λ c. rw (c .before .before .before .action .given .1, c .enum-told13 .given .1))
     (λ c. rw (c .before .before .before .action .given .1, c .enum-told14 .given .1))
     (λ c. rw (c .before .before .before .action .given .1, c .enum-told15 .given .1)))

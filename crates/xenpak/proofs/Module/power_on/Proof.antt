@@ -13,4 +13,4 @@ power-on-spec =
     (λ c κs. search needs)
     (λ c κs. search needs)
     (λ c κs. search needs)
-    (λ c. rw (c .started .ensures, c .before .powered .ensures, c .before .before .before .off-answer .ensures)))
+    (λ c. rw (c .started .ensures, c .before .powered .ensures, c .before .before .before .off .ensures)))

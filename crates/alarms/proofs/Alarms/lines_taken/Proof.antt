@@ -1,0 +1,14 @@
+-- `alarms::Alarms::lines_taken` meets its contract.
+-- Assumes nothing.
+use borrow.Author.Needs.{needs}
+use Rattle.alarms.proofs.Alarms.lines_taken.Statement.{statement}
+use Rattle.alarms.proofs.Alarms.lines_taken.Tie as tie
+
+pub lines-taken-spec : {M : Type 1} → statement M
+lines-taken-spec =
+    tie.close
+    (tie.spec
+    (λ c κs. search needs)
+    (λ c κs. search needs)
+    (λ c κs. search needs)
+    (λ c. rw (c .before .differ .ensures, c .before .before .before .before .fed2 .ensures, c .before .before .before .before .before .before .fed .ensures)))

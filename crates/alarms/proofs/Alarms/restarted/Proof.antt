@@ -1,0 +1,18 @@
+-- `alarms::Alarms::restarted` meets its contract.
+-- Assumes nothing.
+use borrow.Author.Needs.{needs}
+use Rattle.alarms.proofs.Alarms.restarted.Statement.{statement}
+use Rattle.alarms.proofs.Alarms.restarted.Tie as tie
+
+pub restarted-spec : {M : Type 1} → statement M
+restarted-spec =
+    tie.close
+    (tie.spec
+    (λ c κs. search needs)
+    (λ c κs. search needs)
+    (λ c κs. search needs)
+    (λ c κs. search needs)
+    (λ c κs. search needs)
+    (λ c κs. search needs)
+    (λ c κs. search needs)
+    (λ c. rw (c .none4 .ensures, c .before .none3 .ensures, c .before .before .none2 .ensures, c .before .before .before .none .ensures, c .before .before .before .before .cleared2 .ensures, c .before .before .before .before .before .cleared .ensures, c .before .before .before .before .before .before .zero .ensures)))

@@ -1,0 +1,2 @@
+-- What the contracts of `alarms` cite.
+pub mod Alarms

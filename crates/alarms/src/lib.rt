@@ -1,0 +1,232 @@
+// Alarm and flag latches, the link and the controls: what frames, starts, lines and samples do to them.
+ghost use mathlib.Core.Path.{_≡_};
+ghost use Rattle.alarms.specs.Alarms.{differ, noAlarms, statusCleared, flagsCleared, afterRead, restarted, controlled, alarmsAfter, poweredAlarms, resetAlarms, linesTaken, afterLines, flagsTaken, afterSample};
+use action::Action;
+use controls::Controls;
+use flags::Flags;
+use latch::Latch;
+use registers::Register;
+
+#[repr(C)]
+pub struct Alarms {
+    pub controls: Controls,
+    // Receive and transmit faults.
+    pub rxfaults: Latch,
+    pub txfaults: Latch,
+    // A070, A071, A074, A075.
+    pub txalarm: Latch,
+    pub rxalarm: Latch,
+    pub txwarning: Latch,
+    pub rxwarning: Latch,
+    // The link is up; and the link alarm, bit 0 of 9005: the link changed.
+    pub link: bool,
+    pub changed: bool,
+}
+
+// What a lines call gives: receive and transmit faults, and the three link levels, signal detect, block lock and lane
+// alignment.
+pub struct Lines {
+    pub receive: u16,
+    pub transmit: u16,
+    pub signal: bool,
+    pub block: bool,
+    pub lanes: bool,
+}
+
+fn differ(a: bool, b: bool) -> bool
+    ensures { λ r. ⌜ r ≡ differ a b ⌝ }
+{
+    if a { !b } else { b }
+}
+
+impl Alarms {
+    pub fn none() -> Alarms
+        ensures { λ r. ⌜ r ≡ noAlarms ⌝ }
+    {
+        Alarms {
+            controls: Controls::zero(),
+            rxfaults: Latch::none(),
+            txfaults: Latch::none(),
+            txalarm: Latch::none(),
+            rxalarm: Latch::none(),
+            txwarning: Latch::none(),
+            rxwarning: Latch::none(),
+            link: false,
+            changed: false,
+        }
+    }
+
+    // A read of 9003 or 9004 clears its faults, one of 9005 the link alarm.
+    fn status_cleared(mut self, i: u8) -> Alarms
+        ensures { λ r. ⌜ r ≡ statusCleared self i ⌝ }
+    {
+        match i {
+            0 => {
+                self.rxfaults.since = 0;
+                self
+            }
+            1 => {
+                self.txfaults.since = 0;
+                self
+            }
+            2 => {
+                self.changed = false;
+                self
+            }
+            _ => self,
+        }
+    }
+
+    // A read of A070, A071, A074 or A075 clears its flags.
+    fn flags_cleared(mut self, i: u8) -> Alarms
+        ensures { λ r. ⌜ r ≡ flagsCleared self i ⌝ }
+    {
+        match i {
+            0 => {
+                self.txalarm.since = 0;
+                self
+            }
+            1 => {
+                self.rxalarm.since = 0;
+                self
+            }
+            2 => {
+                self.txwarning.since = 0;
+                self
+            }
+            3 => {
+                self.rxwarning.since = 0;
+                self
+            }
+            _ => self,
+        }
+    }
+
+    // After a read of a register.
+    fn after_read(self, register: Register) -> Alarms
+        ensures { λ r. ⌜ r ≡ afterRead self register ⌝ }
+    {
+        match register {
+            Register::PmaControl => self,
+            Register::NvrControl => self,
+            Register::Copy(_) => self,
+            Register::Customer(_) => self,
+            Register::Control(_) => self,
+            Register::Status(i) => self.status_cleared(i),
+            Register::Threshold(_) => self,
+            Register::Sample(_, _) => self,
+            Register::Flags(i) => self.flags_cleared(i),
+            Register::Unlisted => self,
+        }
+    }
+
+    // A reset keeps the lines: the latest faults and the link.
+    fn restarted(self) -> Alarms
+        ensures { λ r. ⌜ r ≡ restarted self ⌝ }
+    {
+        Alarms {
+            controls: Controls::zero(),
+            rxfaults: self.rxfaults.cleared(),
+            txfaults: self.txfaults.cleared(),
+            txalarm: Latch::none(),
+            rxalarm: Latch::none(),
+            txwarning: Latch::none(),
+            rxwarning: Latch::none(),
+            link: self.link,
+            changed: false,
+        }
+    }
+
+    // A control takes a word.
+    fn controlled(mut self, i: u8, word: u16) -> Alarms
+        ensures { λ r. ⌜ r ≡ controlled self i word ⌝ }
+    {
+        let controls = self.controls;
+        let written = controls.written(i, word);
+        self.controls = written;
+        self
+    }
+
+    // After a frame.
+    pub fn after(self, action: Action) -> Alarms
+        ensures { λ r. ⌜ r ≡ alarmsAfter self action ⌝ }
+    {
+        match action {
+            Action::Refused => self,
+            Action::Silent => self,
+            Action::SetAddress(_) => self,
+            Action::Dropped => self,
+            Action::Reset => self.restarted(),
+            Action::Command(_) => self,
+            Action::Customer(_, _) => self,
+            Action::Control(i, word) => self.controlled(i, word),
+            Action::Read(register, _) => self.after_read(register),
+        }
+    }
+
+    // After power-on, if it is accepted: the lines are zero too.
+    pub fn powered(self, accepted: bool) -> Alarms
+        ensures { λ r. ⌜ r ≡ poweredAlarms accepted self ⌝ }
+    {
+        if accepted { Alarms::none() } else { self }
+    }
+
+    // After the reset pin, if it is accepted.
+    pub fn reset(self, accepted: bool) -> Alarms
+        ensures { λ r. ⌜ r ≡ resetAlarms accepted self ⌝ }
+    {
+        if accepted { self.restarted() } else { self }
+    }
+
+    // Faults under their masks; the link is up when all three levels are.
+    fn lines_taken(mut self, lines: Lines) -> Alarms
+        ensures { λ r. ⌜ r ≡ linesTaken self lines ⌝ }
+    {
+        let rx = self.rxfaults.fed(lines.receive & 0x0039);
+        let tx = self.txfaults.fed(lines.transmit & 0x03d9);
+        let up = lines.signal & lines.block & lines.lanes;
+        let moved = differ(self.link, up);
+        self.changed = self.changed | moved;
+        self.rxfaults = rx;
+        self.txfaults = tx;
+        self.link = up;
+        self
+    }
+
+    // After a lines call, if it is accepted.
+    pub fn lines(self, accepted: bool, lines: Lines) -> Alarms
+        ensures { λ r. ⌜ r ≡ afterLines accepted self lines ⌝ }
+    {
+        if accepted {
+            self.lines_taken(lines)
+        } else {
+            self
+        }
+    }
+
+    // The flags of a sample.
+    fn flags_taken(mut self, flags: Flags) -> Alarms
+        ensures { λ r. ⌜ r ≡ flagsTaken self flags ⌝ }
+    {
+        let txalarm = self.txalarm.fed(flags.txalarm);
+        let rxalarm = self.rxalarm.fed(flags.rxalarm);
+        let txwarning = self.txwarning.fed(flags.txwarning);
+        let rxwarning = self.rxwarning.fed(flags.rxwarning);
+        self.txalarm = txalarm;
+        self.rxalarm = rxalarm;
+        self.txwarning = txwarning;
+        self.rxwarning = rxwarning;
+        self
+    }
+
+    // After a sample, if it is accepted.
+    pub fn sampled(self, accepted: bool, flags: Flags) -> Alarms
+        ensures { λ r. ⌜ r ≡ afterSample accepted self flags ⌝ }
+    {
+        if accepted {
+            self.flags_taken(flags)
+        } else {
+            self
+        }
+    }
+}

@@ -1,0 +1,98 @@
+-- What each call answers: document 01's number of each refusal, number and values of each answer, and which is given.
+-- Assumes nothing.
+use Prim.Native.Nat.{ℕ}
+use mathlib.Core.Bool.{Bool, cond}
+use mathlib.Core.List.{List, [], _∷_}
+use Rattle.action.specs.declared.Action.{Action}
+use Rattle.action.specs.declared.Action.the-variants as action
+use Rattle.jobs.specs.declared.Work.{Work}
+use Rattle.jobs.specs.declared.Work.the-variants as work
+use Rattle.answers.specs.declared.Refusal.{Refusal}
+use Rattle.answers.specs.declared.Refusal.the-variants.{Port, ImageLength, ThresholdsLength, Checksum, ThresholdOrder, Temperature, PoweredOff, PoweredOn}
+use Rattle.answers.specs.declared.Answer.{Answer}
+use Rattle.answers.specs.declared.Answer.the-variants as plain
+use Rattle.answers.specs.declared.FrameAnswer.{FrameAnswer}
+use Rattle.answers.specs.declared.FrameAnswer.the-variants as frame
+use Rattle.answers.specs.declared.TickAnswer.{TickAnswer}
+use Rattle.answers.specs.declared.TickAnswer.the-variants as tick
+use Rattle.answers.specs.declared.SettleAnswer.{SettleAnswer}
+use Rattle.answers.specs.declared.SettleAnswer.the-variants as settle
+
+abbrev pub refusalNumber : Refusal → ℕ
+refusalNumber Port = 1
+refusalNumber ImageLength = 2
+refusalNumber ThresholdsLength = 3
+refusalNumber Checksum = 4
+refusalNumber ThresholdOrder = 5
+refusalNumber Temperature = 6
+refusalNumber PoweredOff = 7
+refusalNumber PoweredOn = 8
+
+-- an answer as document 01 gives it: the refusal's number, 0 where there is none; which of the answers that it names for
+-- the call, in its order, from 0; and the values that come with it
+pub record Said : Type 0 where
+  pub refusal : ℕ
+  pub which : ℕ
+  pub values : List ℕ
+
+abbrev pub refusedWith : Refusal → Said
+refusedWith why = record { refusal = refusalNumber why; which = 0; values = [] }
+
+abbrev pub says : ℕ → List ℕ → Said
+says n vs = record { refusal = 0; which = n; values = vs }
+
+abbrev pub saidPlain : Answer → Said
+saidPlain plain.Accepted = says 0 []
+saidPlain (plain.Refused why) = refusedWith why
+
+-- silent, set, written, dropped, data
+abbrev pub saidFrame : FrameAnswer → Said
+saidFrame frame.Silent = says 0 []
+saidFrame frame.Set = says 1 []
+saidFrame frame.Written = says 2 []
+saidFrame frame.Dropped = says 3 []
+saidFrame (frame.Data value) = says 4 (value ∷ [])
+saidFrame (frame.Refused why) = refusedWith why
+
+-- nothing, loaded, burned; offset and byte
+abbrev pub saidTick : TickAnswer → Said
+saidTick tick.Nothing = says 0 []
+saidTick (tick.Loaded offset byte) = says 1 (offset ∷ byte ∷ [])
+saidTick (tick.Burned offset byte) = says 2 (offset ∷ byte ∷ [])
+saidTick (tick.Refused why) = refusedWith why
+
+-- the count
+abbrev pub saidSettle : SettleAnswer → Said
+saidSettle (settle.Ticks count) = says 0 (count ∷ [])
+saidSettle (settle.Refused why) = refusedWith why
+
+-- ---- which answer a call gives
+-- 7: powered off
+abbrev pub onAnswer : Bool → Answer
+onAnswer powered = cond powered plain.Accepted (plain.Refused PoweredOff)
+
+-- 8: power-on while powered
+abbrev pub offAnswer : Bool → Answer
+offAnswer powered = cond powered (plain.Refused PoweredOn) plain.Accepted
+
+-- 6: temperature out of range; 7 precedes 6
+abbrev pub sampleAnswer : Bool → Bool → Answer
+sampleAnswer powered right = cond powered (cond right plain.Accepted (plain.Refused Temperature)) (plain.Refused PoweredOff)
+
+abbrev pub tickAnswer : Work → ℕ → TickAnswer
+tickAnswer work.Refused byte = tick.Refused PoweredOff
+tickAnswer work.Nothing byte = tick.Nothing
+tickAnswer (work.Load offset) byte = tick.Loaded offset byte
+tickAnswer (work.Burn offset) byte = tick.Burned offset byte
+
+-- the answer of a frame that reads this value
+abbrev pub frameAnswer : Action → ℕ → FrameAnswer
+frameAnswer action.Refused value = frame.Refused PoweredOff
+frameAnswer action.Silent value = frame.Silent
+frameAnswer (action.SetAddress a) value = frame.Set
+frameAnswer action.Dropped value = frame.Dropped
+frameAnswer action.Reset value = frame.Written
+frameAnswer (action.Command word) value = frame.Written
+frameAnswer (action.Customer offset byte) value = frame.Written
+frameAnswer (action.Control i word) value = frame.Written
+frameAnswer (action.Read r increment) value = frame.Data value

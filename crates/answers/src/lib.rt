@@ -1,0 +1,118 @@
+// What each call answers.
+ghost use mathlib.Core.Path.{_≡_};
+ghost use Rattle.answers.specs.Answers.{onAnswer, offAnswer, sampleAnswer, tickAnswer, frameAnswer};
+use action::Action;
+use jobs::Work;
+
+// Why a call is refused; `refusalNumber` in specs/ has document 01's number of each.
+pub enum Refusal {
+    Port,
+    ImageLength,
+    ThresholdsLength,
+    Checksum,
+    ThresholdOrder,
+    Temperature,
+    PoweredOff,
+    PoweredOn,
+}
+
+// The answer of making, power-on, cut, reset pin, lines and sample.
+pub enum Answer {
+    Accepted,
+    Refused(Refusal),
+}
+
+pub enum FrameAnswer {
+    Silent,
+    Set,
+    Written,
+    Dropped,
+    Data(u16),
+    Refused(Refusal),
+}
+
+// Loaded and burned come with offset and byte.
+pub enum TickAnswer {
+    Nothing,
+    Loaded(u8, u8),
+    Burned(u8, u8),
+    Refused(Refusal),
+}
+
+// The count of ticks that settling stands for.
+pub enum SettleAnswer {
+    Ticks(u32),
+    Refused(Refusal),
+}
+
+impl Answer {
+    // The answer of a call that needs power.
+    pub fn on(powered: bool) -> Answer
+        ensures { λ r. ⌜ r ≡ onAnswer powered ⌝ }
+    {
+        if powered {
+            Answer::Accepted
+        } else {
+            Answer::Refused(Refusal::PoweredOff)
+        }
+    }
+
+    // The answer of power-on.
+    pub fn off(powered: bool) -> Answer
+        ensures { λ r. ⌜ r ≡ offAnswer powered ⌝ }
+    {
+        if powered {
+            Answer::Refused(Refusal::PoweredOn)
+        } else {
+            Answer::Accepted
+        }
+    }
+
+    // The answer of a sample: 7 precedes 6.
+    pub fn sample(powered: bool, right: bool) -> Answer
+        ensures { λ r. ⌜ r ≡ sampleAnswer powered right ⌝ }
+    {
+        if powered {
+            if right {
+                Answer::Accepted
+            } else {
+                Answer::Refused(Refusal::Temperature)
+            }
+        } else {
+            Answer::Refused(Refusal::PoweredOff)
+        }
+    }
+}
+
+impl FrameAnswer {
+    // The answer of a frame that reads this value.
+    pub fn of(action: Action, value: u16) -> FrameAnswer
+        ensures { λ r. ⌜ r ≡ frameAnswer action value ⌝ }
+    {
+        match action {
+            Action::Refused => FrameAnswer::Refused(Refusal::PoweredOff),
+            Action::Silent => FrameAnswer::Silent,
+            Action::SetAddress(_) => FrameAnswer::Set,
+            Action::Dropped => FrameAnswer::Dropped,
+            Action::Reset => FrameAnswer::Written,
+            Action::Command(_) => FrameAnswer::Written,
+            Action::Customer(_, _) => FrameAnswer::Written,
+            Action::Control(_, _) => FrameAnswer::Written,
+            Action::Read(_, _) => FrameAnswer::Data(value),
+        }
+    }
+}
+
+impl TickAnswer {
+    // The answer of a tick that moves this byte.
+    pub fn of(work: Work, byte: u8) -> TickAnswer
+        ensures { λ r. ⌜ r ≡ tickAnswer work byte ⌝ }
+    {
+        match work {
+            Work::Refused => TickAnswer::Refused(Refusal::PoweredOff),
+            Work::Nothing => TickAnswer::Nothing,
+            Work::Load(offset) => TickAnswer::Loaded(offset, byte),
+            Work::Burn(offset) => TickAnswer::Burned(offset, byte),
+        }
+    }
+}

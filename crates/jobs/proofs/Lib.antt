@@ -1,2 +1,0 @@
--- Laws of `jobs` that belong to no one function.
-pub mod Zeros

@@ -1,0 +1,2 @@
+-- Laws of `settling` that belong to no one function.
+pub mod Settling

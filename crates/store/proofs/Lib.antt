@@ -1,0 +1,2 @@
+-- Laws of `store` that belong to no one function.
+pub mod Zeros

@@ -1,0 +1,71 @@
+-- Store and copy: what a tick, a cut, a frame and a start do to them. Document 01, "Load, burn, cut".
+-- Assumes nothing.
+use Prim.Native.Nat.{ℕ}
+use mathlib.Core.Bool.{Bool, cond}
+use mathlib.Core.List.{List}
+use mathlib.Core.Path.{_≡_}
+use lib.ListN.{getD, set, replicate}
+use Rattle.action.specs.declared.Action.{Action}
+use Rattle.action.specs.declared.Action.the-variants as action
+use Rattle.jobs.specs.declared.Work.{Work}
+use Rattle.jobs.specs.declared.Work.the-variants.{Refused, Nothing, Load, Burn}
+use Rattle.store.specs.declared.Cut.{Cut}
+use Rattle.store.specs.declared.Cut.the-variants.{Clean, Struck}
+
+-- the byte that a tick moves, 0 where it moves none
+abbrev pub movedByte : List ℕ → List ℕ → Work → ℕ
+movedByte store copy Refused = 0
+movedByte store copy Nothing = 0
+movedByte store copy (Load due) = getD store due 0
+movedByte store copy (Burn due) = getD copy due 0
+
+-- a load puts store into copy
+abbrev pub loadedCopy : List ℕ → List ℕ → Work → List ℕ
+loadedCopy store copy Refused = copy
+loadedCopy store copy Nothing = copy
+loadedCopy store copy (Load due) = set copy due (getD store due 0)
+loadedCopy store copy (Burn due) = copy
+
+-- a burn puts copy into store
+abbrev pub burnedStore : List ℕ → List ℕ → Work → List ℕ
+burnedStore store copy Refused = store
+burnedStore store copy Nothing = store
+burnedStore store copy (Load due) = store
+burnedStore store copy (Burn due) = set store due (getD copy due 0)
+
+-- the byte, store and copy of a tick
+pub record Moved (s c : List ℕ) (work : Work) (b : ℕ) (s′ c′ : List ℕ) : Type 0 where
+  pub byte : b ≡ movedByte s c work
+  pub store : s′ ≡ burnedStore s c work
+  pub copy : c′ ≡ loadedCopy s c work
+
+abbrev pub struckAt : List ℕ → ℕ → Cut → List ℕ
+struckAt store due Clean = store
+struckAt store due (Struck byte) = set store due byte
+
+-- struck while a burn is due, the cut's byte goes to the offset due; otherwise it harms nothing
+abbrev pub struckStore : List ℕ → Work → Cut → List ℕ
+struckStore store Refused cut = store
+struckStore store Nothing cut = store
+struckStore store (Load due) cut = store
+struckStore store (Burn due) cut = struckAt store due cut
+
+-- n zeros
+unfoldable pub zeros : ℕ → List ℕ
+zeros n = replicate n 0
+
+-- the copy after a frame: 256 zeros after a reset; a customer register takes its byte
+abbrev pub writtenCopy : List ℕ → Action → List ℕ
+writtenCopy copy action.Refused = copy
+writtenCopy copy action.Silent = copy
+writtenCopy copy (action.SetAddress a) = copy
+writtenCopy copy action.Dropped = copy
+writtenCopy copy action.Reset = zeros 256
+writtenCopy copy (action.Command word) = copy
+writtenCopy copy (action.Customer offset byte) = set copy offset byte
+writtenCopy copy (action.Control i word) = copy
+writtenCopy copy (action.Read r increment) = copy
+
+-- the copy after power-on or the reset pin, if it is accepted
+abbrev pub startedCopy : Bool → List ℕ → List ℕ
+startedCopy accepted copy = cond accepted (zeros 256) copy

@@ -1,0 +1,2 @@
+-- What the contracts of `store` cite.
+pub mod Bytes

@@ -1,0 +1,93 @@
+// Store and copy: the byte that a tick moves, the byte that a cut strikes, and what writes and starts leave in the copy.
+ghost use mathlib.Core.Path.{_≡_};
+ghost use lib.ListN.{getD};
+ghost use Rattle.store.specs.Bytes.{Moved, struckStore, zeros, writtenCopy, startedCopy};
+use action::Action;
+use jobs::Work;
+
+// A power cut: clean, or struck with a byte.
+pub enum Cut {
+    Clean,
+    Struck(u8),
+}
+
+// A tick's byte goes from store to copy, or from copy to store; it is the result, 0 where none goes.
+pub fn move_byte(store: &mut [u8; 256], copy: &mut [u8; 256], work: Work) -> u8
+    ensures { λ r. ⌜ Moved (now (store .entry)) (now (copy .entry)) work r (now (store .exit)) (now (copy .exit)) ⌝ }
+{
+    match work {
+        Work::Refused => 0,
+        Work::Nothing => 0,
+        Work::Load(due) => {
+            let at = due as usize;
+            let byte = store[at];
+            copy[at] = byte;
+            byte
+        }
+        Work::Burn(due) => {
+            let at = due as usize;
+            let byte = copy[at];
+            store[at] = byte;
+            byte
+        }
+    }
+}
+
+// The byte of a struck cut goes into the store where a burn is due, and nowhere else.
+pub fn strike(store: &mut [u8; 256], work: Work, cut: Cut)
+    ensures { λ _. ⌜ now (store .exit) ≡ struckStore (now (store .entry)) work cut ⌝ }
+{
+    match work {
+        Work::Refused => {}
+        Work::Nothing => {}
+        Work::Load(_) => {}
+        Work::Burn(due) => match cut {
+            Cut::Clean => {}
+            Cut::Struck(byte) => {
+                store[due as usize] = byte;
+            }
+        },
+    }
+}
+
+// The copy begins as 256 zeros.
+fn zero(copy: &mut [u8; 256])
+    ensures { λ _. ⌜ now (copy .exit) ≡ zeros 256 ⌝ }
+{
+    *copy = [0; 256];
+}
+
+// What a frame leaves in the copy.
+pub fn write_copy(copy: &mut [u8; 256], action: Action)
+    ensures { λ _. ⌜ now (copy .exit) ≡ writtenCopy (now (copy .entry)) action ⌝ }
+{
+    match action {
+        Action::Refused => {}
+        Action::Silent => {}
+        Action::SetAddress(_) => {}
+        Action::Dropped => {}
+        Action::Reset => zero(copy),
+        Action::Command(_) => {}
+        Action::Customer(offset, byte) => {
+            copy[offset as usize] = byte;
+        }
+        Action::Control(_, _) => {}
+        Action::Read(_, _) => {}
+    }
+}
+
+// What power-on or the reset pin leaves in the copy, if it is accepted.
+pub fn start_copy(copy: &mut [u8; 256], accepted: bool)
+    ensures { λ _. ⌜ now (copy .exit) ≡ startedCopy accepted (now (copy .entry)) ⌝ }
+{
+    if accepted {
+        zero(copy);
+    }
+}
+
+// The byte at an offset.
+pub fn byte_at(bytes: &[u8; 256], offset: u8) -> u8
+    ensures { λ r. ⌜ r ≡ getD (now (bytes .entry)) offset 0 ⌝ }
+{
+    bytes[offset as usize]
+}

@@ -1,2 +1,0 @@
--- Laws that the proofs of `xenpak` and the crates above cite.
-pub mod Settling
