@@ -6,7 +6,7 @@ use answers::Answer;
 use answers::SettleAnswer;
 use calls::Call;
 use calls::CallAnswer;
-use making::make;
+use creation::make;
 use settling::settle;
 use xenpak::Module;
 

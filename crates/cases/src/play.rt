@@ -41,7 +41,7 @@ fn call_of(kind: u64, n: u32) -> Call {
     match kind {
         POWER_ON => Call::PowerOn,
         CUT => Call::Cut(Cut::Clean),
-        STRUCK => Call::Cut(Cut::Struck((n % 256) as u8)),
+        STRUCK => Call::Cut(Cut::Torn((n % 256) as u8)),
         RESET_PIN => Call::ResetPin,
         FRAME => Call::Frame(n),
         LINES => lines(n, 0),

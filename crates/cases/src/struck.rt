@@ -29,7 +29,7 @@ fn summed(m: Module, sum: u32) -> u32 {
 // Cut with 55 after so many ticks, powered on again, and loaded.
 fn cut_after(b: Bench, ticks: u32) -> Bench {
     b.repeated(Call::Tick, ticks)
-        .call(Call::Cut(Cut::Struck(0x55)))
+        .call(Call::Cut(Cut::Torn(0x55)))
         .call(Call::PowerOn)
         .repeated(Call::Tick, 256)
 }

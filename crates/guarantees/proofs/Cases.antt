@@ -9,7 +9,7 @@ use Rattle.action.specs.Action.{actionOf}
 use Rattle.nvr.specs.Command.{commandOf}
 use Rattle.store.specs.Bytes.{zeros}
 use Rattle.flags.specs.Flags.{flagsOf}
-use Rattle.making.specs.Making.{make}
+use Rattle.creation.specs.Creation.{make}
 use Rattle.xenpak.specs.Frame.{frame}
 use Rattle.xenpak.specs.Calls as calls
 use Rattle.calls.specs.Calls.{step}

@@ -31,9 +31,9 @@ use Rattle.calls.specs.declared.Call.{Call}
 use Rattle.calls.specs.declared.Call.the-variants as call
 use Rattle.xenpak.specs.declared.Module.{Module}
 use Rattle.xenpak.specs.declared.Outcome.{Outcome}
-use Rattle.making.specs.Making.{fresh, blank, refused, judgedBy, make}
+use Rattle.creation.specs.Creation.{fresh, blank, refused, judgedBy, make}
 use Rattle.answers.specs.declared.Refusal.the-variants.{Port, ImageLength, ThresholdsLength}
-use Rattle.guarantees.specs.Guarantees.{makingRefusal, MakingRefuses, Making, refusalBy, Refusals}
+use Rattle.guarantees.specs.Guarantees.{makeRefusal, MakeRefuses, MakeRefusals, refusalBy, Refusals}
 
 -- ---- making
 module _ (m : Module) where
@@ -60,9 +60,9 @@ module _ (m : Module) where
   blanked false true true true false f = refl
   blanked false true true true true f = absurd (f refl)
 
-pub making : Making
+pub make-refusals : MakeRefusals
 unfolding make
-making port image thresholds =
+make-refusals port image thresholds =
     let m = fresh port image thresholds in
     let p = ltb 31 port in
     let i = eqb (length image) 256 in

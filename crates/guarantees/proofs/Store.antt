@@ -20,11 +20,11 @@ use Rattle.jobs.specs.Job as job
 use Rattle.jobs.specs.Job.{workOf, afterWork}
 use Rattle.jobs.specs.declared.Job.{Job as ModuleJob}
 use Rattle.store.specs.declared.Cut.{Cut}
-use Rattle.store.specs.declared.Cut.the-variants.{Clean, Struck}
+use Rattle.store.specs.declared.Cut.the-variants.{Clean, Torn}
 use Rattle.calls.specs.Calls.{step, run}
 use Rattle.calls.specs.declared.Call.{Call}
 use Rattle.xenpak.specs.declared.Module.{Module}
-use Rattle.guarantees.specs.Reference.{Job, none, load, burn, Reference, withStore, withCopy, withAddress, advanced, tickRef, cutRef, struckStore, customerOffset, commandJob, commanded, readRef, incremented, stepRef}
+use Rattle.guarantees.specs.Reference.{Job, none, load, burn, Reference, withStore, withCopy, withAddress, advanced, tickRef, cutRef, tornStore, customerOffset, commandJob, commanded, readRef, incremented, stepRef}
 use Rattle.guarantees.specs.BurnLog.{Entry, tickLog, cutLog, stepLog, burnLog, applied}
 use Rattle.guarantees.specs.History.{Event}
 use Rattle.guarantees.proofs.StatusWord.{kept-masked, idle, done, failed, Ended}
@@ -148,12 +148,12 @@ tick-store r none = refl
 tick-store r (load due last) = advanced-store (ltb due last) (load (due + 1) last) (withCopy (set (r .copy) due (getD (r .store) due 0)) r)
 tick-store r (burn due last) = advanced-store (ltb due last) (burn (due + 1) last) (withStore (set (r .store) due (getD (r .copy) due 0)) r)
 
-cut-store : (s : List ℕ) (j : Job) (cut : Cut) → struckStore s j cut ≡ applied (cutLog j cut) s
+cut-store : (s : List ℕ) (j : Job) (cut : Cut) → tornStore s j cut ≡ applied (cutLog j cut) s
 unfolding applied
 cut-store s none cut = refl
 cut-store s (load due last) cut = refl
 cut-store s (burn due last) Clean = refl
-cut-store s (burn due last) (Struck byte) = refl
+cut-store s (burn due last) (Torn byte) = refl
 
 read-store : (r : Reference) (x : Register) → readRef r x .store ≡ r .store
 unfolding readRef
@@ -222,7 +222,7 @@ cut-entries : (j : Job) (cut : Cut) → BurnSound j → AllCustomer (cutLog j cu
 cut-entries none cut h = tt
 cut-entries (load due last) cut h = tt
 cut-entries (burn due last) Clean h = tt
-cut-entries (burn due last) (Struck byte) h = (customer due (omega arith) (omega arith), tt)
+cut-entries (burn due last) (Torn byte) h = (customer due (omega arith) (omega arith), tt)
 
 to-entries : {m n : Module} {r : Reference} {l : List Entry} {e : Event} → Transition m n r l e → JobSound (m .job) → AllCustomer l
 to-entries (unchanged p) h = tt

@@ -30,7 +30,7 @@ use Rattle.store.specs.Bytes.{zeros}
 use Rattle.store.specs.Bytes as bytes
 use Rattle.jobs.specs.declared.Job.{Job as ModuleJob}
 use Rattle.store.specs.declared.Cut.{Cut}
-use Rattle.store.specs.declared.Cut.the-variants.{Clean, Struck}
+use Rattle.store.specs.declared.Cut.the-variants.{Clean, Torn}
 use Rattle.dom.specs.Codes.{acceptable}
 use Rattle.dom.specs.Thresholds.{thresholdsOf}
 use Rattle.dom.specs.declared.Sample.{Sample}
@@ -47,7 +47,7 @@ use Rattle.xenpak.specs.Calls.{withPower, tickBy, sampleBy}
 use Rattle.calls.specs.declared.Call.{Call}
 use Rattle.calls.specs.declared.Call.the-variants as call
 use Rattle.xenpak.specs.declared.Module.{Module}
-use Rattle.guarantees.specs.Reference.{Job, none, load, burn, Reference, reference, withCopy, withAddress, withControls, withWord, zeroCopy, zeroControls, started, withStatus, busy, shown, advanced, tickRef, cutRef, struckStore, customerOffset, commandJob, commandStatus, commanded, masks, writeRef, readRef, incremented, frameRef, onRef, offRef, stepRef}
+use Rattle.guarantees.specs.Reference.{Job, none, load, burn, Reference, reference, withCopy, withAddress, withControls, withWord, zeroCopy, zeroControls, started, withStatus, busy, shown, advanced, tickRef, cutRef, tornStore, customerOffset, commandJob, commandStatus, commanded, masks, writeRef, readRef, incremented, frameRef, onRef, offRef, stepRef}
 use Rattle.guarantees.specs.BurnLog.{Entry, tickLog, cutLog, onLog, stepLog}
 use Rattle.guarantees.specs.History.{Event, nothing, poweredOn, wasReset, gotLines, gotSample, dataFrom, writeEvent, frameEvent, onEvent, offEvent, stepEvent}
 use Rattle.guarantees.proofs.StatusWord.{Kept, kept-masked, status-put, Ended, idle, done, failed, status, busy-word, shown-word}
@@ -84,7 +84,7 @@ pub data Transition (m : Module) : Module → Reference → List Entry → Event
   unchanged : {n : Module} → n ≡ m → Transition m n (referenceOf m) [] nothing
   powering : Transition m (calls.started true alarms.noAlarms (withPower true (m .store) m)) (started (referenceOf m)) [] poweredOn
   cutting : (cut : Cut)
-      → Transition m (withPower false (bytes.struckStore (m .store) (workOf true (m .job)) cut) m) (cutRef (referenceOf m) cut)
+      → Transition m (withPower false (bytes.tornStore (m .store) (workOf true (m .job)) cut) m) (cutRef (referenceOf m) cut)
       (cutLog (jobRef (m .job)) cut) nothing
   resetting : m .powered ≡ true → Transition m (moduleAfter m action.Reset) (started (referenceOf m)) [] wasReset
   ticking :
@@ -155,7 +155,7 @@ module _ (m : Module) where
   pub on-again : m .powered ≡ true → calls.started false (m .alarms) (withPower true (m .store) m) ≡ m
   on-again on = rw on
 
-  pub cut-off : (cut : Cut) → m .powered ≡ false → withPower false (bytes.struckStore (m .store) (workOf false (m .job)) cut) m ≡ m
+  pub cut-off : (cut : Cut) → m .powered ≡ false → withPower false (bytes.tornStore (m .store) (workOf false (m .job)) cut) m ≡ m
   cut-off cut off = rw off
 
 pub transition : (m : Module) → JobSound (m .job) → (c : Call)
@@ -168,7 +168,7 @@ transition m h call.PowerOn = go (m .powered) refl
         (cond b (referenceOf m) (started (referenceOf m))) (cond b [] []) (cond b nothing poweredOn)
     go true p = unchanged (on-again m p)
     go false p = powering
-transition m h (call.Cut cut) = when m (m .powered) (λ b. withPower false (bytes.struckStore (m .store) (workOf b (m .job)) cut) m) (cut-off m cut) (λ on. cutting cut) refl
+transition m h (call.Cut cut) = when m (m .powered) (λ b. withPower false (bytes.tornStore (m .store) (workOf b (m .job)) cut) m) (cut-off m cut) (λ on. cutting cut) refl
 transition m h call.ResetPin = when m (m .powered) (λ b. calls.started b (alarms.resetAlarms b (m .alarms)) m) (λ off. refl) resetting refl
 transition m h (call.Frame word) =
     when m (m .powered) (λ b. moduleAfter m (cond b (requestAction (requestOf word (m .port)) (m .bus .address) (isBusy (m .job))) action.Refused))
@@ -205,15 +205,15 @@ tick-ref m h = go (eqb (m .job .kind) 0) (eqb (m .job .kind) 2) (ltb (m .job .du
     go false false true p q r = rw (p, q, r, p, q)
     go false false false p q r = rw (p, q, r, last)
 
-cut-ref : (m : Module) (cut : Cut) → referenceOf (withPower false (bytes.struckStore (m .store) (workOf true (m .job)) cut) m) ≡ cutRef (referenceOf m) cut
+cut-ref : (m : Module) (cut : Cut) → referenceOf (withPower false (bytes.tornStore (m .store) (workOf true (m .job)) cut) m) ≡ cutRef (referenceOf m) cut
 unfolding cutRef
 cut-ref m cut = go cut (eqb (m .job .kind) 0) (eqb (m .job .kind) 2) refl refl
   where
     go : (k : Cut) (b c : Bool) → eqb (m .job .kind) 0 ≡ b → eqb (m .job .kind) 2 ≡ c
-        → referenceOf (withPower false (bytes.struckStore (m .store) (workOf true (m .job)) k) m) ≡ cutRef (referenceOf m) k
+        → referenceOf (withPower false (bytes.tornStore (m .store) (workOf true (m .job)) k) m) ≡ cutRef (referenceOf m) k
     go k true c p q = rw p
     go Clean false true p q = rw (p, q)
-    go (Struck byte) false true p q = rw (p, q)
+    go (Torn byte) false true p q = rw (p, q)
     go k false false p q = rw (p, q)
 
 -- a command's job

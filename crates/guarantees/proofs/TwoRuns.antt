@@ -11,12 +11,12 @@ use lib.ListN.{length, getD, take}
 use lib.Seq.{take-take, getD-take}
 use Rattle.nvr.specs.Image.{sum, checksumRight}
 use Rattle.jobs.specs.Job.{workOf}
-use Rattle.store.specs.Bytes.{struckStore}
+use Rattle.store.specs.Bytes.{tornStore}
 use Rattle.jobs.specs.declared.Work.{Work}
 use Rattle.jobs.specs.declared.Work.the-variants as work
 use Rattle.store.specs.declared.Cut.the-variants.{Clean}
 use Rattle.dom.specs.Thresholds.{thresholdsOf, ordered}
-use Rattle.making.specs.Making.{fresh, refused, judgedBy, make}
+use Rattle.creation.specs.Creation.{fresh, refused, judgedBy, make}
 use Rattle.calls.specs.Calls.{step, run}
 use Rattle.xenpak.specs.Calls.{powerOn, powerCut}
 use Rattle.answers.specs.declared.Refusal.{Refusal}
@@ -76,7 +76,7 @@ checksum-front s t e =
 abbrev startFrom : Fixed → List ℕ → Module
 startFrom f s = run (fresh (f .port) s (f .thresholds)) (PowerOn ∷ [])
 
-clean-cut : (s : List ℕ) (w : Work) → struckStore s w Clean ≡ s
+clean-cut : (s : List ℕ) (w : Work) → tornStore s w Clean ≡ s
 clean-cut s work.Refused = refl
 clean-cut s work.Nothing = refl
 clean-cut s (work.Load due) = refl

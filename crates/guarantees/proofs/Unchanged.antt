@@ -12,7 +12,7 @@ use Rattle.jobs.specs.Job.{isBusy, workOf}
 use Rattle.jobs.specs.declared.Work.{Work}
 use Rattle.jobs.specs.declared.Work.the-variants as work
 use Rattle.dom.specs.Codes.{acceptable}
-use Rattle.store.specs.Bytes.{struckStore}
+use Rattle.store.specs.Bytes.{tornStore}
 use Rattle.alarms.specs.Alarms.{poweredAlarms, resetAlarms}
 use Rattle.calls.specs.Calls.{said, step}
 use Rattle.xenpak.specs.Frame.{frame, moduleAfter}
@@ -80,7 +80,7 @@ unchanged m call.PowerOn e = go (m .powered) refl e
     go true p e = on-again m p
     go false p e = not-so e
 unchanged m (call.Cut cut) e =
-    by-power m (λ b. withPower false (struckStore (m .store) (workOf b (m .job)) cut) m) (cut-off m cut) (m .powered) refl e
+    by-power m (λ b. withPower false (tornStore (m .store) (workOf b (m .job)) cut) m) (cut-off m cut) (m .powered) refl e
 unchanged m call.ResetPin e = by-power m (λ b. calls.started b (resetAlarms b (m .alarms)) m) (λ _. refl) (m .powered) refl e
 unchanged m (call.Frame word) e = by-frame m (actionOf (m .powered) (m .port) (m .bus .address) (isBusy (m .job)) word) _ e
 unchanged m call.Tick e = by-tick m (workOf (m .powered) (m .job)) _ e

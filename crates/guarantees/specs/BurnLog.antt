@@ -6,7 +6,7 @@ use mathlib.Core.Bool.{cond}
 use mathlib.Core.List.{List, [], _∷_, _++_}
 use lib.ListN.{getD, set}
 use Rattle.store.specs.declared.Cut.{Cut}
-use Rattle.store.specs.declared.Cut.the-variants.{Clean, Struck}
+use Rattle.store.specs.declared.Cut.the-variants.{Clean, Torn}
 use Rattle.calls.specs.declared.Call.{Call}
 use Rattle.calls.specs.declared.Call.the-variants as call
 use Rattle.guarantees.specs.Reference.{Job, none, load, burn, Reference, stepRef}
@@ -24,12 +24,12 @@ tickLog copy none = []
 tickLog copy (load due last) = []
 tickLog copy (burn due last) = entry due (getD copy due 0)
 
--- a cut struck while a burn is due
+-- a cut torn while a burn is due
 abbrev pub cutLog : Job → Cut → List Entry
 cutLog none cut = []
 cutLog (load due last) cut = []
 cutLog (burn due last) Clean = []
-cutLog (burn due last) (Struck byte) = entry due byte
+cutLog (burn due last) (Torn byte) = entry due byte
 
 unfoldable pub onLog : Reference → Call → List Entry
 onLog r call.PowerOn = []

@@ -5,11 +5,11 @@ use mathlib.Core.Bool.{true}
 use mathlib.Core.List.{List, [], _∷_, _++_}
 use lib.IntN.{ℤ, pos, negsuc}
 use lib.ListN.{set, replicate}
-use Rattle.store.specs.declared.Cut.the-variants.{Struck}
+use Rattle.store.specs.declared.Cut.the-variants.{Torn}
 use Rattle.dom.specs.Readout.{tenthsOf}
 use Rattle.dom.specs.declared.Sample.{Sample}
 use Rattle.alarms.specs.declared.Lines.{Lines}
-use Rattle.making.specs.Making.{make}
+use Rattle.creation.specs.Creation.{make}
 use Rattle.calls.specs.Calls.{step}
 use Rattle.answers.specs.declared.Answer.{Answer}
 use Rattle.answers.specs.declared.Answer.the-variants as plain
@@ -131,7 +131,7 @@ table =
     -- loaded; 807E gets 01AA
     ∷ row (loaded ++ address 0x807e ++ write 0x01aa ++ read) (0x00aa ∷ []) 0x807e image
     -- then 8000 gets 0023, 2 ticks, cut struck 55
-    ∷ row (loaded ++ address 0x807e ++ write 0x01aa ++ address 0x8000 ++ write 0x0023 ++ ticks 2 ++ (call.Cut (Struck 0x55) ∷ [])) [] 0x8000
+    ∷ row (loaded ++ address 0x807e ++ write 0x01aa ++ address 0x8000 ++ write 0x0023 ++ ticks 2 ++ (call.Cut (Torn 0x55) ∷ [])) [] 0x8000
     (set (set image 119 0xaa) 121 0x55)
     -- temperature high alarm 4600: samples 4600, 4601, a read after each
     ∷ row (address 0xa070 ++ sample (pos 0x4600) 0 ++ read ++ sample (pos 0x4601) 0 ++ read) (0x0000 ∷ 0x0080 ∷ []) 0xa070 image

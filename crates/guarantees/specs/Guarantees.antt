@@ -15,7 +15,7 @@ use Rattle.store.specs.declared.Cut.the-variants.{Clean}
 use Rattle.lasi.specs.Lasi.{alarmLine}
 use Rattle.answers.specs.Answers.{Said, saidPlain}
 use Rattle.calls.specs.Calls.{said, step, run}
-use Rattle.making.specs.Making.{blank, make}
+use Rattle.creation.specs.Creation.{blank, make}
 use Rattle.xenpak.specs.Frame.{valueAt}
 use Rattle.settling.specs.Settling.{settle}
 use Rattle.answers.specs.declared.Answer.the-variants.{Accepted}
@@ -121,19 +121,19 @@ AlarmsByHistory = (port : ℕ) (image thresholds : List ℕ) (a : Module) (calls
     → AlarmRegisters thresholds (run a calls) (runRef port (initial image) calls) (events port (initial image) [] calls)
 
 -- demand 1: making refuses by the lowest of numbers 1 to 5 that applies, 0 if none does, and then gives the blank module
-abbrev pub makingRefusal : ℕ → List ℕ → List ℕ → ℕ
-makingRefusal port image thresholds =
+abbrev pub makeRefusal : ℕ → List ℕ → List ℕ → ℕ
+makeRefusal port image thresholds =
     cond (ltb 31 port) 1
     (cond (eqb (length image) 256)
     (cond (eqb (length thresholds) 40) (cond (checksumRight image) (cond (ordered (thresholdsOf thresholds)) 0 5) 4) 3)
     2)
 
-pub record MakingRefuses (port : ℕ) (image thresholds : List ℕ) : Type 0 where
-  pub number : saidPlain (make port image thresholds .answer) .refusal ≡ makingRefusal port image thresholds
-  pub blank-given : makingRefusal port image thresholds ≢ 0 → make port image thresholds .next ≡ blank
+pub record MakeRefuses (port : ℕ) (image thresholds : List ℕ) : Type 0 where
+  pub number : saidPlain (make port image thresholds .answer) .refusal ≡ makeRefusal port image thresholds
+  pub blank-given : makeRefusal port image thresholds ≢ 0 → make port image thresholds .next ≡ blank
 
-abbrev pub Making : Type 0
-Making = (port : ℕ) (image thresholds : List ℕ) → MakingRefuses port image thresholds
+abbrev pub MakeRefusals : Type 0
+MakeRefusals = (port : ℕ) (image thresholds : List ℕ) → MakeRefuses port image thresholds
 
 -- the other calls, by power and arguments: 7 when off but for power-on; 8 and 6 when on
 abbrev pub refusalBy : Bool → Call → ℕ

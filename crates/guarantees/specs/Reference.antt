@@ -15,7 +15,7 @@ use Rattle.registers.specs.Map.{registerAt}
 use Rattle.registers.specs.declared.Register.{Register}
 use Rattle.registers.specs.declared.Register.the-variants.{PmaControl, NvrControl, Copy, Customer, Control, Status, Threshold, Sample, Flags, Unlisted}
 use Rattle.store.specs.declared.Cut.{Cut}
-use Rattle.store.specs.declared.Cut.the-variants.{Clean, Struck}
+use Rattle.store.specs.declared.Cut.the-variants.{Clean, Torn}
 use Rattle.calls.specs.declared.Call.{Call}
 use Rattle.calls.specs.declared.Call.the-variants as call
 
@@ -92,14 +92,14 @@ tickRef r (load due last) = advanced (ltb due last) (load (due + 1) last) (withC
 tickRef r (burn due last) = advanced (ltb due last) (burn (due + 1) last) (withStore (set (r .store) due (getD (r .copy) due 0)) r)
 
 -- a cut takes the power; struck while a burn is due, its byte goes into the store there
-abbrev pub struckStore : List ℕ → Job → Cut → List ℕ
-struckStore s none cut = s
-struckStore s (load due last) cut = s
-struckStore s (burn due last) Clean = s
-struckStore s (burn due last) (Struck byte) = set s due byte
+abbrev pub tornStore : List ℕ → Job → Cut → List ℕ
+tornStore s none cut = s
+tornStore s (load due last) cut = s
+tornStore s (burn due last) Clean = s
+tornStore s (burn due last) (Torn byte) = set s due byte
 
 unfoldable pub cutRef : Reference → Cut → Reference
-cutRef r cut = reference false (struckStore (r .store) (r .job) cut) (r .copy) (r .address) (r .controls) (r .word) (r .job)
+cutRef r cut = reference false (tornStore (r .store) (r .job) cut) (r .copy) (r .address) (r .controls) (r .word) (r .job)
 
 -- ---- commands
 -- the customer bytes

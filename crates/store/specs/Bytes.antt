@@ -10,7 +10,7 @@ use Rattle.action.specs.declared.Action.the-variants as action
 use Rattle.jobs.specs.declared.Work.{Work}
 use Rattle.jobs.specs.declared.Work.the-variants.{Refused, Nothing, Load, Burn}
 use Rattle.store.specs.declared.Cut.{Cut}
-use Rattle.store.specs.declared.Cut.the-variants.{Clean, Struck}
+use Rattle.store.specs.declared.Cut.the-variants.{Clean, Torn}
 
 -- the byte that a tick moves, 0 where it moves none
 abbrev pub movedByte : List ℕ → List ℕ → Work → ℕ
@@ -39,16 +39,16 @@ pub record Moved (s c : List ℕ) (work : Work) (b : ℕ) (s′ c′ : List ℕ)
   pub store : s′ ≡ burnedStore s c work
   pub copy : c′ ≡ loadedCopy s c work
 
-abbrev pub struckAt : List ℕ → ℕ → Cut → List ℕ
-struckAt store due Clean = store
-struckAt store due (Struck byte) = set store due byte
+abbrev pub tornAt : List ℕ → ℕ → Cut → List ℕ
+tornAt store due Clean = store
+tornAt store due (Torn byte) = set store due byte
 
--- struck while a burn is due, the cut's byte goes to the offset due; otherwise it harms nothing
-abbrev pub struckStore : List ℕ → Work → Cut → List ℕ
-struckStore store Refused cut = store
-struckStore store Nothing cut = store
-struckStore store (Load due) cut = store
-struckStore store (Burn due) cut = struckAt store due cut
+-- torn (document 01: struck) while a burn is due, the cut's byte goes to the offset due; otherwise it harms nothing
+abbrev pub tornStore : List ℕ → Work → Cut → List ℕ
+tornStore store Refused cut = store
+tornStore store Nothing cut = store
+tornStore store (Load due) cut = store
+tornStore store (Burn due) cut = tornAt store due cut
 
 -- n zeros
 unfoldable pub zeros : ℕ → List ℕ

@@ -1,14 +1,14 @@
-// Store and copy: the byte that a tick moves, the byte that a cut strikes, and what writes and starts leave in the copy.
+// Store and copy: the byte that a tick moves, the byte that a cut leaves, and what writes and starts leave in the copy.
 ghost use mathlib.Core.Path.{_≡_};
 ghost use lib.ListN.{getD};
-ghost use Rattle.store.specs.Bytes.{Moved, struckStore, zeros, writtenCopy, startedCopy};
+ghost use Rattle.store.specs.Bytes.{Moved, tornStore, zeros, writtenCopy, startedCopy};
 use action::Action;
 use jobs::Work;
 
-// A power cut: clean, or struck with a byte.
+// A power cut: clean, or torn with a byte (document 01: struck).
 pub enum Cut {
     Clean,
-    Struck(u8),
+    Torn(u8),
 }
 
 // A tick's byte goes from store to copy, or from copy to store; it is the result, 0 where none goes.
@@ -33,9 +33,9 @@ pub fn move_byte(store: &mut [u8; 256], copy: &mut [u8; 256], work: Work) -> u8
     }
 }
 
-// The byte of a struck cut goes into the store where a burn is due, and nowhere else.
-pub fn strike(store: &mut [u8; 256], work: Work, cut: Cut)
-    ensures { λ _. ⌜ now (store .exit) ≡ struckStore (now (store .entry)) work cut ⌝ }
+// The byte of a torn cut goes into the store where a burn is due, and nowhere else.
+pub fn tear(store: &mut [u8; 256], work: Work, cut: Cut)
+    ensures { λ _. ⌜ now (store .exit) ≡ tornStore (now (store .entry)) work cut ⌝ }
 {
     match work {
         Work::Refused => {}
@@ -43,7 +43,7 @@ pub fn strike(store: &mut [u8; 256], work: Work, cut: Cut)
         Work::Load(_) => {}
         Work::Burn(due) => match cut {
             Cut::Clean => {}
-            Cut::Struck(byte) => {
+            Cut::Torn(byte) => {
                 store[due as usize] = byte;
             }
         },

@@ -4,7 +4,7 @@ use Prim.Native.Nat.{ℕ}
 use mathlib.Core.Bool.{Bool, true, false, not, _&&_}
 use mathlib.Core.List.{List}
 use Rattle.jobs.specs.Job.{workOf, afterWork, startedJob}
-use Rattle.store.specs.Bytes.{movedByte, loadedCopy, burnedStore, struckStore, startedCopy}
+use Rattle.store.specs.Bytes.{movedByte, loadedCopy, burnedStore, tornStore, startedCopy}
 use Rattle.jobs.specs.declared.Work.{Work}
 use Rattle.store.specs.declared.Cut.{Cut}
 use Rattle.dom.specs.Codes.{acceptable}
@@ -68,7 +68,7 @@ resetPin m =
 unfoldable pub powerCut : Module → Cut → Outcome
 powerCut m cut =
     record {
-      next = withPower false (struckStore (m .store) (workOf (m .powered) (m .job)) cut) m;
+      next = withPower false (tornStore (m .store) (workOf (m .powered) (m .job)) cut) m;
       answer = onAnswer (m .powered);
     }
 

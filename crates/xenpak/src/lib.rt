@@ -29,7 +29,7 @@ use store::Cut;
 use store::byte_at;
 use store::move_byte;
 use store::start_copy;
-use store::strike;
+use store::tear;
 use store::write_copy;
 
 #[repr(C)]
@@ -124,7 +124,7 @@ impl Module {
         let job = self.job;
         let work = job.work(powered);
         let mut store = self.store;
-        strike(&mut store, work, cut);
+        tear(&mut store, work, cut);
         self.store = store;
         self.powered = false;
         Outcome {

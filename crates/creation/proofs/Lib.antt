@@ -1,0 +1,2 @@
+-- Laws of `creation` that belong to no one function.
+pub mod Copying

@@ -1,0 +1,2 @@
+-- What the contracts of `creation` cite.
+pub mod Creation

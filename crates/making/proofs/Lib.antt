@@ -1,2 +1,0 @@
--- Laws of `making` that belong to no one function.
-pub mod Copying

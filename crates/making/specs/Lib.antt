@@ -1,2 +1,0 @@
--- What the contracts of `making` cite.
-pub mod Making
