@@ -1,6 +1,9 @@
 // What a frame asks of the module's parts, decided once.
 ghost use mathlib.Core.Path.{_≡_};
-ghost use Rattle.action.specs.Action.{when, writeTo, requestAction, actionOf, registerOf};
+ghost use Rattle.action.specs.Action.{when, writeTo, requestAction, actionOf};
+
+pub mod read;
+
 use mdio::Request;
 use registers::Register;
 use words::bit;
@@ -78,24 +81,5 @@ pub fn decide(powered: bool, port: u8, address: u16, busy: bool, word: u32) -> A
         request_action(request, address, busy)
     } else {
         Action::Refused
-    }
-}
-
-impl Action {
-    // The register that a frame reads.
-    pub fn register(self) -> Register
-        ensures { λ r. ⌜ r ≡ registerOf self ⌝ }
-    {
-        match self {
-            Action::Refused => Register::Unlisted,
-            Action::Silent => Register::Unlisted,
-            Action::SetAddress(_) => Register::Unlisted,
-            Action::Dropped => Register::Unlisted,
-            Action::Reset => Register::Unlisted,
-            Action::Command(_) => Register::Unlisted,
-            Action::Customer(_, _) => Register::Unlisted,
-            Action::Control(_, _) => Register::Unlisted,
-            Action::Read(register, _) => register,
-        }
     }
 }
