@@ -1,7 +1,7 @@
 -- Latches, link and controls: what frames, starts, lines and samples do to them. Document 01, "Registers" and "Alarms".
 -- Assumes nothing.
 use Prim.Native.Nat.{ℕ}
-use mathlib.Core.Bool.{Bool, true, false, cond, not, _&&_, _||_}
+use mathlib.Core.Bool.{Bool, false, cond, not, _&&_, _||_}
 use mathlib.Core.List.{[], _∷_}
 use lib.Bits.{bitAnd}
 use lib.ListN.{getD}
@@ -146,14 +146,7 @@ alarmsAfter a (action.Customer offset byte) = a
 alarmsAfter a (action.Control i word) = controlled a i word
 alarmsAfter a (action.Read r increment) = afterRead a r
 
--- ---- starts, lines, samples, if they are accepted
--- power-on also zeroes the lines
-abbrev pub poweredAlarms : Bool → Alarms → Alarms
-poweredAlarms accepted a = cond accepted noAlarms a
-
-abbrev pub resetAlarms : Bool → Alarms → Alarms
-resetAlarms accepted a = cond accepted (restarted a) a
-
+-- ---- lines, samples
 abbrev pub differ : Bool → Bool → Bool
 differ a b = cond a (not b) b
 
@@ -162,18 +155,13 @@ abbrev pub linkUp : Lines → Bool
 linkUp l = l .signal && l .block && l .lanes
 
 -- receive faults under mask 0039, transmit faults under 03D9; the link alarm if the link changed
-abbrev pub linesTaken : Alarms → Lines → Alarms
-linesTaken a l =
+abbrev pub afterLines : Alarms → Lines → Alarms
+afterLines a l =
     withFaults (fed (bitAnd (l .receive) 0x0039) (a .rxfaults)) (fed (bitAnd (l .transmit) 0x03d9) (a .txfaults))
     (withLink (linkUp l) (a .changed || differ (a .link) (linkUp l)) a)
 
-abbrev pub afterLines : Bool → Alarms → Lines → Alarms
-afterLines accepted a l = cond accepted (linesTaken a l) a
-
-abbrev pub flagsTaken : Alarms → Flags → Alarms
-flagsTaken a f =
+-- each flag's latch is fed with what the sample crossed
+abbrev pub afterSample : Alarms → Flags → Alarms
+afterSample a f =
     withFlags (fed (f .txalarm) (a .txalarm)) (fed (f .rxalarm) (a .rxalarm)) (fed (f .txwarning) (a .txwarning))
     (fed (f .rxwarning) (a .rxwarning)) a
-
-abbrev pub afterSample : Bool → Alarms → Flags → Alarms
-afterSample accepted a f = cond accepted (flagsTaken a f) a

@@ -1,6 +1,6 @@
 // Alarm and flag latches, the link and the controls: what frames, starts, lines and samples do to them.
 ghost use mathlib.Core.Path.{_≡_};
-ghost use Rattle.alarms.specs.Alarms.{differ, noAlarms, statusCleared, flagsCleared, afterRead, restarted, controlled, alarmsAfter, poweredAlarms, resetAlarms, linesTaken, afterLines, flagsTaken, afterSample};
+ghost use Rattle.alarms.specs.Alarms.{differ, noAlarms, statusCleared, flagsCleared, afterRead, restarted, controlled, alarmsAfter, afterLines, afterSample};
 use action::Action;
 use controls::Controls;
 use flags::Flags;
@@ -121,7 +121,7 @@ impl Alarms {
     }
 
     // A reset keeps the lines: the latest faults and the link.
-    fn restarted(self) -> Alarms
+    pub fn restarted(self) -> Alarms
         ensures { λ r. ⌜ r ≡ restarted self ⌝ }
     {
         Alarms {
@@ -164,23 +164,9 @@ impl Alarms {
         }
     }
 
-    // After power-on, if it is accepted: the lines are zero too.
-    pub fn powered(self, accepted: bool) -> Alarms
-        ensures { λ r. ⌜ r ≡ poweredAlarms accepted self ⌝ }
-    {
-        if accepted { Alarms::none() } else { self }
-    }
-
-    // After the reset pin, if it is accepted.
-    pub fn reset(self, accepted: bool) -> Alarms
-        ensures { λ r. ⌜ r ≡ resetAlarms accepted self ⌝ }
-    {
-        if accepted { self.restarted() } else { self }
-    }
-
-    // Faults under their masks; the link is up when all three levels are.
-    fn lines_taken(mut self, lines: Lines) -> Alarms
-        ensures { λ r. ⌜ r ≡ linesTaken self lines ⌝ }
+    // After a lines call: faults under their masks; the link is up when all three levels are.
+    pub fn lines(mut self, lines: Lines) -> Alarms
+        ensures { λ r. ⌜ r ≡ afterLines self lines ⌝ }
     {
         let rx = self.rxfaults.fed(lines.receive & 0x0039);
         let tx = self.txfaults.fed(lines.transmit & 0x03d9);
@@ -193,20 +179,9 @@ impl Alarms {
         self
     }
 
-    // After a lines call, if it is accepted.
-    pub fn lines(self, accepted: bool, lines: Lines) -> Alarms
-        ensures { λ r. ⌜ r ≡ afterLines accepted self lines ⌝ }
-    {
-        if accepted {
-            self.lines_taken(lines)
-        } else {
-            self
-        }
-    }
-
-    // The flags of a sample.
-    fn flags_taken(mut self, flags: Flags) -> Alarms
-        ensures { λ r. ⌜ r ≡ flagsTaken self flags ⌝ }
+    // After a sample with these flags.
+    pub fn sampled(mut self, flags: Flags) -> Alarms
+        ensures { λ r. ⌜ r ≡ afterSample self flags ⌝ }
     {
         let txalarm = self.txalarm.fed(flags.txalarm);
         let rxalarm = self.rxalarm.fed(flags.rxalarm);
@@ -217,16 +192,5 @@ impl Alarms {
         self.txwarning = txwarning;
         self.rxwarning = rxwarning;
         self
-    }
-
-    // After a sample, if it is accepted.
-    pub fn sampled(self, accepted: bool, flags: Flags) -> Alarms
-        ensures { λ r. ⌜ r ≡ afterSample accepted self flags ⌝ }
-    {
-        if accepted {
-            self.flags_taken(flags)
-        } else {
-            self
-        }
     }
 }

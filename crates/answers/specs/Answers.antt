@@ -1,7 +1,6 @@
 -- What each call answers: document 01's number of each refusal, number and values of each answer, and which is given.
 -- Assumes nothing.
 use Prim.Native.Nat.{ℕ}
-use mathlib.Core.Bool.{Bool, cond}
 use mathlib.Core.List.{List, [], _∷_}
 use Rattle.action.specs.declared.Action.{Action}
 use Rattle.action.specs.declared.Action.the-variants as action
@@ -67,18 +66,6 @@ saidSettle (settle.Ticks count) = says 0 (count ∷ [])
 saidSettle (settle.Refused why) = refusedWith why
 
 -- ---- which answer a call gives
--- 7: powered off
-abbrev pub onAnswer : Bool → Answer
-onAnswer powered = cond powered plain.Accepted (plain.Refused PoweredOff)
-
--- 8: power-on while powered
-abbrev pub offAnswer : Bool → Answer
-offAnswer powered = cond powered (plain.Refused PoweredOn) plain.Accepted
-
--- 6: temperature out of range; 7 precedes 6
-abbrev pub sampleAnswer : Bool → Bool → Answer
-sampleAnswer powered right = cond powered (cond right plain.Accepted (plain.Refused Temperature)) (plain.Refused PoweredOff)
-
 abbrev pub tickAnswer : Work → ℕ → TickAnswer
 tickAnswer work.Refused byte = tick.Refused PoweredOff
 tickAnswer work.Nothing byte = tick.Nothing

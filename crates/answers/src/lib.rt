@@ -1,6 +1,6 @@
 // What each call answers.
 ghost use mathlib.Core.Path.{_≡_};
-ghost use Rattle.answers.specs.Answers.{onAnswer, offAnswer, sampleAnswer, tickAnswer, frameAnswer};
+ghost use Rattle.answers.specs.Answers.{tickAnswer, frameAnswer};
 use action::Action;
 use jobs::Work;
 
@@ -43,45 +43,6 @@ pub enum TickAnswer {
 pub enum SettleAnswer {
     Ticks(u32),
     Refused(Refusal),
-}
-
-impl Answer {
-    // The answer of a call that needs power.
-    pub fn on(powered: bool) -> Answer
-        ensures { λ r. ⌜ r ≡ onAnswer powered ⌝ }
-    {
-        if powered {
-            Answer::Accepted
-        } else {
-            Answer::Refused(Refusal::PoweredOff)
-        }
-    }
-
-    // The answer of power-on.
-    pub fn off(powered: bool) -> Answer
-        ensures { λ r. ⌜ r ≡ offAnswer powered ⌝ }
-    {
-        if powered {
-            Answer::Refused(Refusal::PoweredOn)
-        } else {
-            Answer::Accepted
-        }
-    }
-
-    // The answer of a sample: 7 precedes 6.
-    pub fn sample(powered: bool, right: bool) -> Answer
-        ensures { λ r. ⌜ r ≡ sampleAnswer powered right ⌝ }
-    {
-        if powered {
-            if right {
-                Answer::Accepted
-            } else {
-                Answer::Refused(Refusal::Temperature)
-            }
-        } else {
-            Answer::Refused(Refusal::PoweredOff)
-        }
-    }
 }
 
 impl FrameAnswer {

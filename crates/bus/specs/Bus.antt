@@ -35,7 +35,3 @@ busAfter b (Command word) = b
 busAfter b (Customer offset byte) = b
 busAfter b (Control i word) = b
 busAfter b (Read r increment) = busRead b increment
-
--- after power-on or the reset pin, if it is accepted
-abbrev pub startedBus : Bool → Bus → Bus
-startedBus accepted b = cond accepted noBus b

@@ -1,6 +1,6 @@
 // The address register, and the count of data answers.
 ghost use mathlib.Core.Path.{_≡_};
-ghost use Rattle.bus.specs.Bus.{noBus, oneMore, nextAddress, busRead, busAfter, startedBus};
+ghost use Rattle.bus.specs.Bus.{noBus, oneMore, nextAddress, busRead, busAfter};
 use action::Action;
 
 #[repr(C)]
@@ -64,12 +64,5 @@ impl Bus {
             Action::Control(_, _) => self,
             Action::Read(_, increment) => self.read(increment),
         }
-    }
-
-    // After power-on or the reset pin, if it is accepted.
-    pub fn started(self, accepted: bool) -> Bus
-        ensures { λ r. ⌜ r ≡ startedBus accepted self ⌝ }
-    {
-        if accepted { Bus::zero() } else { self }
     }
 }

@@ -1,6 +1,5 @@
 -- Any call, lists of calls, and what each answer says.
 -- Assumes nothing.
-use Prim.Native.Nat.{ℕ}
 use mathlib.Core.List.{List, [], _∷_}
 use Rattle.answers.specs.Answers.{Said, saidPlain, saidFrame, saidTick}
 use Rattle.xenpak.specs.Frame.{frame}

@@ -13,6 +13,9 @@ use alarms::Lines;
 use calls::Call;
 use dom::Sample;
 use dom::signed_code;
+use reads::alarm_line;
+use reads::counter;
+use reads::stored;
 use store::Cut;
 
 // Faults, and levels in bits 2 to 0.
@@ -81,9 +84,9 @@ fn shown(b: Bench, kind: u64, n: u32) -> Bench {
         READ => return b.read((n % 0x1_0000) as u16),
         READ_NEXT => return b.call(Call::Frame(READ_INCREMENT_FRAME)).show(),
         SETTLE => return b.settle(n),
-        ALARM => number(m.alarm_line() as u32),
-        COUNTER => number(m.counter() as u32),
-        STORED => word(m.stored((n % 256) as u8) as u16),
+        ALARM => number(alarm_line(m) as u32),
+        COUNTER => number(counter(m) as u32),
+        STORED => word(stored(m, (n % 256) as u8) as u16),
         _ => text(b" |"),
     }
     b

@@ -5,6 +5,7 @@ use crate::bench::loaded;
 use crate::print::number;
 use crate::print::text;
 use calls::Call;
+use reads::stored;
 use store::Cut;
 use xenpak::Module;
 
@@ -21,7 +22,7 @@ fn burning() -> Bench {
 fn summed(m: Module, sum: u32) -> u32 {
     let mut s = sum;
     for offset in 0..256u32 {
-        s = (s % 65521 * 31 + m.stored(offset as u8) as u32) % 65521;
+        s = (s % 65521 * 31 + stored(m, offset as u8) as u32) % 65521;
     }
     s
 }
@@ -39,7 +40,7 @@ fn held(m: Module, offset: u8) -> u32
     ensures { λ r. ⌜ r ≤ 1 ⌝ }
 {
     let next = offset % 255 + 1;
-    if (m.stored(offset) == 0x55) & (m.stored(next) == next) {
+    if (stored(m, offset) == 0x55) & (stored(m, next) == next) {
         1
     } else {
         0

@@ -14,7 +14,8 @@ use Rattle.alarms.specs.Alarms.{noAlarms}
 use Rattle.bus.specs.Bus.{noBus}
 use Rattle.answers.specs.declared.Refusal.{Refusal}
 use Rattle.answers.specs.declared.Refusal.the-variants.{Port, ImageLength, ThresholdsLength, Checksum, ThresholdOrder}
-use Rattle.answers.specs.declared.Answer.the-variants.{Accepted, Refused}
+use Rattle.answers.specs.declared.Answer.the-variants.{Refused}
+use Rattle.xenpak.specs.Calls.{accepted}
 use Rattle.xenpak.specs.declared.Module.{Module}
 use Rattle.xenpak.specs.declared.Outcome.{Outcome}
 
@@ -43,7 +44,7 @@ refused why = record { next = blank; answer = Refused why }
 
 abbrev pub judgedBy : Bool → Bool → Module → Outcome
 judgedBy right ordered next =
-    cond right (cond ordered (record { next = next; answer = Accepted }) (refused ThresholdOrder)) (refused Checksum)
+    cond right (cond ordered (accepted next) (refused ThresholdOrder)) (refused Checksum)
 
 -- 4: basic checksum wrong; 5: a quantity's thresholds not in order
 abbrev pub judged : ℕ → List ℕ → List ℕ → Outcome

@@ -3,13 +3,13 @@
 use Prim.Native.Nat.{ℕ, zero, suc, _<_}
 use native.Mathlib.Omega.{arith}
 use borrow.Author.Tests.{ne-eqb}
-use mathlib.Core.Bool.{Bool, true, false, cond, not, _&&_, _||_}
+use mathlib.Core.Bool.{Bool, true, false, cond, _&&_, _||_}
 use mathlib.Core.List.{List, [], _∷_}
 use mathlib.Core.Path.{_≡_, refl, sym, ap, ap₂, _∙_, subst}
-use lib.Bits.{bitAnd, bitOr}
+use lib.Bits.{bitOr}
 use lib.Dec.{eqb}
 use lib.ListN.{getD}
-use Rattle.words.specs.Words.{bit, anyBit, ofBits, share}
+use Rattle.words.specs.Words.{bit, ofBits, share}
 use Rattle.words.proofs.Laws.{bit-and, bit-or, bit-zero, bit-ofBits, any-same}
 use Rattle.registers.specs.declared.Register.{Register}
 use Rattle.registers.specs.declared.Register.the-variants as register
@@ -22,12 +22,12 @@ use Rattle.lasi.specs.Lasi.{rxAlarm, txAlarm, lasiStatus, alarmLine}
 use Rattle.latch.specs.declared.Latch.{Latch}
 use Rattle.controls.specs.declared.Controls.{Controls}
 use Rattle.alarms.specs.declared.Alarms.{Alarms}
-use Rattle.calls.specs.Calls.{step, run}
+use Rattle.calls.specs.Calls.{step}
 use Rattle.calls.specs.declared.Call.{Call}
 use Rattle.xenpak.specs.declared.Module.{Module}
-use Rattle.guarantees.specs.Reference.{Reference, stepRef, runRef}
+use Rattle.guarantees.specs.Reference.{Reference}
 use Rattle.guarantees.specs.BurnLog.{Entry}
-use Rattle.guarantees.specs.History.{Event, nothing, poweredOn, wasReset, gotLines, gotSample, dataFrom, stepEvent, events, Effect, keeps, clears, forgets, gives, Source, fromStatus, fromFlags, clearsIf, rxFaults, txFaults, txFlag, rxFlag, flagged, txAlarms, rxAlarms, txWarnings, rxWarnings, latestAfter, sinceAfter, latestHas, someSince, stands, linkAfter, linkUp, changedAfter, linkChanged, shares, rxAlarmBit, txAlarmBit, lasiBit, lineByHistory}
+use Rattle.guarantees.specs.History.{Event, nothing, poweredOn, wasReset, gotLines, gotSample, dataFrom, stepEvent, Effect, keeps, clears, forgets, gives, Source, fromStatus, fromFlags, clearsIf, rxFaults, txFaults, txFlag, rxFlag, flagged, txAlarms, rxAlarms, txWarnings, rxWarnings, latestAfter, sinceAfter, latestHas, someSince, stands, linkAfter, linkUp, changedAfter, linkChanged, shares, rxAlarmBit, txAlarmBit, lasiBit, lineByHistory}
 use Rattle.guarantees.specs.Guarantees.{alarmLines, linesByHistory, AlarmRegisters}
 use Rattle.guarantees.proofs.Transition.{referenceOf, JobSound, Transition, unchanged, powering, cutting, resetting, ticking, lining, sampling, addressing, commanding, writing, controlling, reading, transition, step-ref, Fixed, step-fixed}
 use Rattle.guarantees.proofs.Store.{step-sound}
@@ -118,7 +118,7 @@ reset-all t a =
       changed = refl;
     }
 
-lines-all : (t : List ℕ) (a : Alarms) (l : _) → AlarmsFollow t (gotLines l) a (alarms.linesTaken a l)
+lines-all : (t : List ℕ) (a : Alarms) (l : _) → AlarmsFollow t (gotLines l) a (alarms.afterLines a l)
 lines-all t a l =
     record {
       rxfaults = given _ _ (λ i. bit-and i (l .receive) 0x0039);
@@ -155,7 +155,7 @@ rx-place flag (suc (suc (suc (suc (suc (suc zero)))))) = refl
 rx-place flag (suc (suc (suc (suc (suc (suc (suc zero))))))) = refl
 rx-place flag (suc (suc (suc (suc (suc (suc (suc (suc i)))))))) = rw (other (suc (suc (suc (suc (suc (suc (suc (suc i)))))))) 7 (omega arith), other (suc (suc (suc (suc (suc (suc (suc (suc i)))))))) 6 (omega arith))
 
-sample-all : (t : List ℕ) (a : Alarms) (s : _) → AlarmsFollow t (gotSample s) a (alarms.flagsTaken a (flagsOf (thresholdsOf t) s))
+sample-all : (t : List ℕ) (a : Alarms) (s : _) → AlarmsFollow t (gotSample s) a (alarms.afterSample a (flagsOf (thresholdsOf t) s))
 unfolding flagsOf
 sample-all t a s =
     let tx : (level : Side → ℕ) (i : ℕ) → bit i (ofBits (txBits (flagged t level s))) ≡ txFlag (flagged t level s) i =

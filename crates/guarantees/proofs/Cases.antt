@@ -1,6 +1,6 @@
 -- Each row of the table follows from the definitions.
 -- Assumes nothing.
-use mathlib.Core.List.{List, map}
+use mathlib.Core.List.{map}
 use mathlib.Core.Path.{_≡_, refl}
 use Rattle.words.specs.Words.{bit, anyBit, share}
 use Rattle.mdio.specs.Frame.{asked, requestOf}

@@ -1,10 +1,9 @@
 -- The number of each refusal, by document 01's conditions.
 -- Assumes nothing.
 use Prim.Native.Nat.{ℕ}
-use mathlib.Core.Bool.{Bool, true, false, cond, not, _&&_}
-use mathlib.Core.List.{List}
+use mathlib.Core.Bool.{Bool, true, false, cond, not}
 use mathlib.Core.Logic.{_≢_}
-use mathlib.Core.Path.{_≡_, refl, ap}
+use mathlib.Core.Path.{_≡_, refl, _∙_}
 use lib.Dec.{eqb, ltb}
 use lib.ListN.{length}
 use Rattle.words.specs.Words.{bit}
@@ -23,8 +22,8 @@ use Rattle.store.specs.Bytes.{movedByte}
 use Rattle.jobs.specs.declared.Job.{Job}
 use Rattle.dom.specs.Codes.{acceptable}
 use Rattle.dom.specs.Thresholds.{thresholdsOf, ordered}
-use Rattle.answers.specs.Answers.{saidPlain, saidFrame, saidTick, frameAnswer, onAnswer, offAnswer, sampleAnswer, tickAnswer}
-use Rattle.calls.specs.Calls.{said, step}
+use Rattle.answers.specs.Answers.{saidPlain, saidFrame, saidTick, frameAnswer, tickAnswer}
+use Rattle.calls.specs.Calls.{step}
 use Rattle.xenpak.specs.Frame.{frame, valueAt}
 use Rattle.xenpak.specs.Calls as calls
 use Rattle.calls.specs.declared.Call.{Call}
@@ -32,8 +31,8 @@ use Rattle.calls.specs.declared.Call.the-variants as call
 use Rattle.xenpak.specs.declared.Module.{Module}
 use Rattle.xenpak.specs.declared.Outcome.{Outcome}
 use Rattle.creation.specs.Creation.{fresh, blank, refused, judgedBy, make}
-use Rattle.answers.specs.declared.Refusal.the-variants.{Port, ImageLength, ThresholdsLength}
-use Rattle.guarantees.specs.Guarantees.{makeRefusal, MakeRefuses, MakeRefusals, refusalBy, Refusals}
+use Rattle.answers.specs.declared.Refusal.the-variants.{Port, ImageLength, ThresholdsLength, PoweredOn}
+use Rattle.guarantees.specs.Guarantees.{MakeRefusals, refusalBy, Refusals}
 
 -- ---- making
 module _ (m : Module) where
@@ -106,23 +105,25 @@ works j byte = go (eqb (j .kind) 0) (eqb (j .kind) 2) refl refl
     go false true p q = rw (p, q)
     go false false p q = rw (p, q)
 
+-- a call that needs power and right arguments
+powers : (m n : Module) (b right : Bool) → saidPlain (calls.taken b right m n .answer) .refusal ≡ cond b (cond right 0 6) 7
+powers m n true true = refl
+powers m n true false = refl
+powers m n false right = refl
+
+on-off : (b : Bool) (c : Call) {n : ℕ} → n ≡ refusalBy true c → 7 ≡ refusalBy false c → cond b n 7 ≡ refusalBy b c
+on-off true c p q = p
+on-off false c p q = q
+
 pub refusals : Refusals
 unfolding step calls.powerOn calls.powerCut calls.resetPin calls.tick calls.lines calls.sample frame actionOf
-refusals m call.PowerOn = go (m .powered)
+refusals m call.PowerOn = go (m .powered) _
   where
-    go : (b : Bool) → saidPlain (offAnswer b) .refusal ≡ refusalBy b call.PowerOn
-    go true = refl
-    go false = refl
-refusals m (call.Cut cut) = go (m .powered)
-  where
-    go : (b : Bool) → saidPlain (onAnswer b) .refusal ≡ refusalBy b (call.Cut cut)
-    go true = refl
-    go false = refl
-refusals m call.ResetPin = go (m .powered)
-  where
-    go : (b : Bool) → saidPlain (onAnswer b) .refusal ≡ refusalBy b call.ResetPin
-    go true = refl
-    go false = refl
+    go : (b : Bool) (n : Module) → saidPlain (cond b (calls.refused PoweredOn m) (calls.accepted n) .answer) .refusal ≡ refusalBy b call.PowerOn
+    go true n = refl
+    go false n = refl
+refusals m (call.Cut cut) = powers m _ (m .powered) true ∙ on-off (m .powered) (call.Cut cut) refl refl
+refusals m call.ResetPin = powers m _ (m .powered) true ∙ on-off (m .powered) call.ResetPin refl refl
 refusals m (call.Frame word) = go (m .powered)
   where
     go : (b : Bool)
@@ -136,17 +137,5 @@ refusals m call.Tick = go (m .powered)
     go : (b : Bool) → saidTick (tickAnswer (workOf b (m .job)) (movedByte (m .store) (m .copy) (workOf b (m .job)))) .refusal ≡ refusalBy b call.Tick
     go true = works (m .job) _
     go false = refl
-refusals m (call.Lines l) = go (m .powered)
-  where
-    go : (b : Bool) → saidPlain (onAnswer b) .refusal ≡ refusalBy b (call.Lines l)
-    go true = refl
-    go false = refl
-refusals m (call.Sample s) = go (m .powered)
-  where
-    ranged : (right : Bool) → saidPlain (sampleAnswer true right) .refusal ≡ cond right 0 6
-    ranged true = refl
-    ranged false = refl
-
-    go : (b : Bool) → saidPlain (sampleAnswer b (acceptable (s .temperature))) .refusal ≡ refusalBy b (call.Sample s)
-    go true = ranged (acceptable (s .temperature))
-    go false = refl
+refusals m (call.Lines l) = powers m _ (m .powered) true ∙ on-off (m .powered) (call.Lines l) refl refl
+refusals m (call.Sample s) = powers m _ (m .powered) (acceptable (s .temperature)) ∙ on-off (m .powered) (call.Sample s) refl refl

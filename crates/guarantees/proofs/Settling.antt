@@ -3,7 +3,7 @@
 use Prim.Native.Nat.{ℕ, zero, suc, min}
 use native.Mathlib.Omega.{arith}
 use mathlib.Core.Bool.{Bool, true, false, cond}
-use mathlib.Core.Path.{_≡_, refl, sym, ap, _∙_}
+use mathlib.Core.Path.{_≡_, refl, ap, _∙_}
 use lib.ListN.{replicate}
 use Rattle.xenpak.specs.Calls.{tick}
 use Rattle.calls.specs.Calls.{step, run}
@@ -13,7 +13,6 @@ use Rattle.answers.specs.declared.SettleAnswer.{SettleAnswer}
 use Rattle.answers.specs.declared.SettleAnswer.the-variants.{Ticks, Refused}
 use Rattle.calls.specs.declared.Call.the-variants.{Tick}
 use Rattle.xenpak.specs.declared.Module.{Module}
-use Rattle.settling.specs.declared.SettleOutcome.{SettleOutcome}
 use Rattle.guarantees.specs.Guarantees.{SettlingIsTicks}
 
 ticks-first : (n : ℕ) (m : Module) → ticks (suc n) m ≡ ticks n (tick m .next)

@@ -1,15 +1,15 @@
 -- The store is the image with the burn log applied, and only customer bytes are burned.
 -- Assumes nothing.
-use Prim.Native.Nat.{ℕ, suc, _+_, _/_, _%_, _≤_, _<_}
+use Prim.Native.Nat.{ℕ, _+_, _/_, _%_, _≤_}
 use native.Mathlib.Omega.{arith}
-use mathlib.Core.Bool.{Bool, true, false, cond, not, _&&_}
+use mathlib.Core.Bool.{Bool, true, false, cond, _&&_}
 use mathlib.Core.List.{List, [], _∷_, _++_}
 use mathlib.Core.Logic.{_≢_}
-use mathlib.Core.Path.{_≡_, refl, sym, ap, ap₂, _∙_, subst}
+use mathlib.Core.Path.{_≡_, refl, sym, ap, _∙_, subst}
 use lib.Dec.{eqb, leb, ltb}
 use lib.ListN.{length, getD, set, take, length-set}
 use lib.Seq.{getD-set-other, take-set-le}
-use borrow.Author.Tests.{leb-true, leb-false, ltb-true, le-leb}
+use borrow.Author.Tests.{leb-true, ltb-true, le-leb}
 use Rattle.words.specs.Words.{bit}
 use Rattle.registers.specs.declared.Register.{Register}
 use Rattle.registers.specs.declared.Register.the-variants as register
@@ -28,7 +28,7 @@ use Rattle.guarantees.specs.Reference.{Job, none, load, burn, Reference,
 use Rattle.guarantees.specs.BurnLog.{Entry, tickLog, cutLog, stepLog, burnLog, applied}
 use Rattle.guarantees.specs.History.{Event}
 use Rattle.guarantees.proofs.StatusWord.{kept-masked, idle, done, failed, Ended}
-use Rattle.guarantees.proofs.Transition.{jobRef, referenceOf, BurnSound, JobSound, Transition, unchanged, powering, cutting, resetting, ticking, lining, sampling, addressing, commanding, writing, controlling, reading, transition, new-job, step-ref, Fixed, fixedOf, step-fixed}
+use Rattle.guarantees.proofs.Transition.{jobRef, referenceOf, BurnSound, JobSound, Transition, unchanged, powering, cutting, resetting, ticking, lining, sampling, addressing, commanding, writing, controlling, reading, transition, new-job, step-ref, Fixed, step-fixed}
 
 -- ---- every job is sound
 customer-low : (o : ℕ) → customerOffset o ≡ true → 119 ≤ o

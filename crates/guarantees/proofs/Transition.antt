@@ -1,9 +1,9 @@
 -- What one call can do: the module's next record beside the reference model's, the burn log's entries and the event.
 -- The walk over all calls is made once, in `transition`; a fact about every call is then one line for each of its cases.
 -- Assumes nothing.
-use Prim.Native.Nat.{ℕ, suc, zero, _+_, _*_, _/_, _%_, _≤_, _^_, _<_}
+use Prim.Native.Nat.{ℕ, suc, zero, _*_, _/_, _%_, _≤_}
 use native.Mathlib.Omega.{arith}
-use mathlib.Core.Bool.{Bool, true, false, cond, not, _&&_}
+use mathlib.Core.Bool.{Bool, true, false, cond, not}
 use mathlib.Core.List.{List, [], _∷_}
 use mathlib.Core.Path.{_≡_, refl, sym, ap, ap₂, _∙_}
 use lib.Bits.{bitAnd, bitOr}
@@ -27,14 +27,11 @@ use Rattle.nvr.specs.declared.command.Command.the-variants as command
 use Rattle.jobs.specs.Job as job
 use Rattle.jobs.specs.Job.{wordOf, isBusy, workOf}
 use Rattle.store.specs.Bytes.{zeros}
-use Rattle.store.specs.Bytes as bytes
 use Rattle.jobs.specs.declared.Job.{Job as ModuleJob}
 use Rattle.store.specs.declared.Cut.{Cut}
 use Rattle.store.specs.declared.Cut.the-variants.{Clean, Torn}
 use Rattle.dom.specs.Codes.{acceptable}
-use Rattle.dom.specs.Thresholds.{thresholdsOf}
 use Rattle.dom.specs.declared.Sample.{Sample}
-use Rattle.flags.specs.Flags.{flagsOf}
 use Rattle.alarms.specs.Alarms as alarms
 use Rattle.controls.specs.Controls.{controlWritten}
 use Rattle.controls.specs.declared.Controls.{Controls}
@@ -43,14 +40,15 @@ use Rattle.alarms.specs.declared.Lines.{Lines}
 use Rattle.xenpak.specs.Frame.{moduleAfter, frame}
 use Rattle.xenpak.specs.Calls as calls
 use Rattle.calls.specs.Calls.{step}
-use Rattle.xenpak.specs.Calls.{withPower, tickBy, sampleBy}
+use Rattle.xenpak.specs.Calls.{accepted, refused, taken, withPower, tickBy}
+use Rattle.answers.specs.declared.Refusal.the-variants.{PoweredOn}
 use Rattle.calls.specs.declared.Call.{Call}
 use Rattle.calls.specs.declared.Call.the-variants as call
 use Rattle.xenpak.specs.declared.Module.{Module}
-use Rattle.guarantees.specs.Reference.{Job, none, load, burn, Reference, reference, withCopy, withAddress, withControls, withWord, zeroCopy, zeroControls, started, withStatus, busy, shown, advanced, tickRef, cutRef, tornStore, customerOffset, commandJob, commandStatus, commanded, masks, writeRef, readRef, incremented, frameRef, onRef, offRef, stepRef}
+use Rattle.guarantees.specs.Reference.{Job, none, load, burn, Reference, reference, withCopy, withAddress, withControls, withWord, zeroCopy, zeroControls, started, withStatus, busy, tickRef, cutRef, customerOffset, commandJob, commandStatus, commanded, masks, writeRef, readRef, incremented, frameRef, onRef, offRef, stepRef}
 use Rattle.guarantees.specs.BurnLog.{Entry, tickLog, cutLog, onLog, stepLog}
 use Rattle.guarantees.specs.History.{Event, nothing, poweredOn, wasReset, gotLines, gotSample, dataFrom, writeEvent, frameEvent, onEvent, offEvent, stepEvent}
-use Rattle.guarantees.proofs.StatusWord.{Kept, kept-masked, status-put, Ended, idle, done, failed, status, busy-word, shown-word}
+use Rattle.guarantees.proofs.StatusWord.{Kept, status-put, Ended, busy-word, shown-word}
 
 -- ---- what the reference model holds of a module
 abbrev pub jobRef : ModuleJob → Job
@@ -82,16 +80,16 @@ busy-is j h = busy-word (j .kept) (h .kept) (eqb (j .kind) 0) (h .ended)
 pub data Transition (m : Module) : Module → Reference → List Entry → Event → Type 0 where
   -- refused, silent, dropped
   unchanged : {n : Module} → n ≡ m → Transition m n (referenceOf m) [] nothing
-  powering : Transition m (calls.started true alarms.noAlarms (withPower true (m .store) m)) (started (referenceOf m)) [] poweredOn
+  powering : Transition m (calls.started alarms.noAlarms (withPower true (m .store) m)) (started (referenceOf m)) [] poweredOn
   cutting : (cut : Cut)
-      → Transition m (withPower false (bytes.tornStore (m .store) (workOf true (m .job)) cut) m) (cutRef (referenceOf m) cut)
+      → Transition m (calls.afterCut m cut) (cutRef (referenceOf m) cut)
       (cutLog (jobRef (m .job)) cut) nothing
   resetting : m .powered ≡ true → Transition m (moduleAfter m action.Reset) (started (referenceOf m)) [] wasReset
   ticking :
       Transition m (tickBy m (workOf true (m .job)) .next) (tickRef (referenceOf m) (jobRef (m .job)))
       (tickLog (m .copy) (jobRef (m .job))) nothing
-  lining : (l : Lines) → Transition m (calls.linesBy m l true) (referenceOf m) [] (gotLines l)
-  sampling : (s : Sample) → Transition m (sampleBy m s true) (referenceOf m) [] (gotSample s)
+  lining : (l : Lines) → Transition m (calls.lined m l) (referenceOf m) [] (gotLines l)
+  sampling : (s : Sample) → Transition m (calls.sampled m s) (referenceOf m) [] (gotSample s)
   addressing : (a : ℕ) → Transition m (moduleAfter m (action.SetAddress a)) (withAddress a (referenceOf m)) [] nothing
   commanding : (v : ℕ) → Transition m (moduleAfter m (action.Command v)) (commanded v (referenceOf m)) [] nothing
   writing : (offset v : ℕ)
@@ -152,33 +150,27 @@ module _ (m : Module) where
   when true n f t p = t p
   when false n f t p = unchanged (f p)
 
-  pub on-again : m .powered ≡ true → calls.started false (m .alarms) (withPower true (m .store) m) ≡ m
-  on-again on = rw on
-
-  pub cut-off : (cut : Cut) → m .powered ≡ false → withPower false (bytes.tornStore (m .store) (workOf false (m .job)) cut) m ≡ m
-  cut-off cut off = rw off
-
 pub transition : (m : Module) → JobSound (m .job) → (c : Call)
     → Transition m (step m c .next) (stepRef (m .port) (referenceOf m) c) (stepLog (referenceOf m) c) (stepEvent (m .port) (referenceOf m) c)
 unfolding step stepRef stepLog stepEvent onRef offRef onLog onEvent offEvent calls.powerOn calls.powerCut calls.resetPin calls.tick calls.lines calls.sample frame actionOf
-transition m h call.PowerOn = go (m .powered) refl
+transition m h call.PowerOn = go (m .powered)
   where
-    go : (b : Bool) → m .powered ≡ b
-        → Transition m (calls.started (not b) (alarms.poweredAlarms (not b) (m .alarms)) (withPower true (m .store) m))
+    go : (b : Bool)
+        → Transition m (cond b (refused PoweredOn m) (accepted (calls.started alarms.noAlarms (withPower true (m .store) m))) .next)
         (cond b (referenceOf m) (started (referenceOf m))) (cond b [] []) (cond b nothing poweredOn)
-    go true p = unchanged (on-again m p)
-    go false p = powering
-transition m h (call.Cut cut) = when m (m .powered) (λ b. withPower false (bytes.tornStore (m .store) (workOf b (m .job)) cut) m) (cut-off m cut) (λ on. cutting cut) refl
-transition m h call.ResetPin = when m (m .powered) (λ b. calls.started b (alarms.resetAlarms b (m .alarms)) m) (λ off. refl) resetting refl
+    go true = unchanged refl
+    go false = powering
+transition m h (call.Cut cut) = when m (m .powered) (λ b. taken b true m (calls.afterCut m cut) .next) (λ off. refl) (λ on. cutting cut) refl
+transition m h call.ResetPin = when m (m .powered) (λ b. taken b true m (calls.started (alarms.restarted (m .alarms)) m) .next) (λ off. refl) resetting refl
 transition m h (call.Frame word) =
     when m (m .powered) (λ b. moduleAfter m (cond b (requestAction (requestOf word (m .port)) (m .bus .address) (isBusy (m .job))) action.Refused))
     (λ off. refl) (λ on. on-request m on h (requestOf word (m .port))) refl
 transition m h call.Tick = when m (m .powered) (λ b. tickBy m (workOf b (m .job)) .next) (λ off. refl) (λ on. ticking) refl
-transition m h (call.Lines l) = when m (m .powered) (calls.linesBy m l) (λ off. refl) (λ on. lining l) refl
+transition m h (call.Lines l) = when m (m .powered) (λ b. taken b true m (calls.lined m l) .next) (λ off. refl) (λ on. lining l) refl
 transition m h (call.Sample s) =
-    when m (m .powered) (λ b. sampleBy m s (b && acceptable (s .temperature))) (λ off. refl) (λ on. go (acceptable (s .temperature))) refl
+    when m (m .powered) (λ b. taken b (acceptable (s .temperature)) m (calls.sampled m s) .next) (λ off. refl) (λ on. go (acceptable (s .temperature))) refl
   where
-    go : (b : Bool) → Transition m (sampleBy m s b) (referenceOf m) [] (cond b (gotSample s) nothing)
+    go : (b : Bool) → Transition m (taken true b m (calls.sampled m s) .next) (referenceOf m) [] (cond b (gotSample s) nothing)
     go true = sampling s
     go false = unchanged refl
 
@@ -205,12 +197,12 @@ tick-ref m h = go (eqb (m .job .kind) 0) (eqb (m .job .kind) 2) (ltb (m .job .du
     go false false true p q r = rw (p, q, r, p, q)
     go false false false p q r = rw (p, q, r, last)
 
-cut-ref : (m : Module) (cut : Cut) → referenceOf (withPower false (bytes.tornStore (m .store) (workOf true (m .job)) cut) m) ≡ cutRef (referenceOf m) cut
+cut-ref : (m : Module) (cut : Cut) → referenceOf (calls.afterCut m cut) ≡ cutRef (referenceOf m) cut
 unfolding cutRef
 cut-ref m cut = go cut (eqb (m .job .kind) 0) (eqb (m .job .kind) 2) refl refl
   where
     go : (k : Cut) (b c : Bool) → eqb (m .job .kind) 0 ≡ b → eqb (m .job .kind) 2 ≡ c
-        → referenceOf (withPower false (bytes.tornStore (m .store) (workOf true (m .job)) k) m) ≡ cutRef (referenceOf m) k
+        → referenceOf (calls.afterCut m k) ≡ cutRef (referenceOf m) k
     go k true c p q = rw p
     go Clean false true p q = rw (p, q)
     go (Torn byte) false true p q = rw (p, q)

@@ -1,6 +1,6 @@
 -- Demand 3, and the alarm registers along every list.
 -- Assumes nothing.
-use Prim.Native.Nat.{ℕ, suc, _%_}
+use Prim.Native.Nat.{ℕ, _%_}
 use native.Mathlib.Omega.{arith}
 use mathlib.Core.Bool.{Bool, true, false, cond}
 use mathlib.Core.List.{List, [], _∷_, _++_}
@@ -24,13 +24,14 @@ use Rattle.answers.specs.declared.Refusal.the-variants.{Port, ImageLength, Thre
 use Rattle.answers.specs.declared.Answer.{Answer}
 use Rattle.answers.specs.declared.Answer.the-variants.{Accepted, Refused}
 use Rattle.calls.specs.declared.Call.{Call}
-use Rattle.calls.specs.declared.Call.the-variants.{PowerOn, Cut}
+use Rattle.calls.specs.declared.Call.the-variants.{PowerOn}
 use Rattle.xenpak.specs.declared.Module.{Module}
 use Rattle.xenpak.specs.declared.Outcome.{Outcome}
 use Rattle.guarantees.specs.Reference.{Reference, initial, reference, none, zeroControls, runRef}
 use Rattle.guarantees.specs.BurnLog.{Entry, burnLog, applied}
 use Rattle.guarantees.specs.History.{Event, stepEvent, events}
-use Rattle.guarantees.specs.Guarantees.{answers, sights, alarmLines, linesByHistory, accepted, powerCycle, TwoRuns, Demand3, AlarmRegisters, AlarmsByHistory}
+use Rattle.xenpak.specs.Calls.{accepted}
+use Rattle.guarantees.specs.Guarantees.{answers, sights, alarmLines, linesByHistory, powerCycle, TwoRuns, Demand3, AlarmRegisters, AlarmsByHistory}
 use Rattle.guarantees.proofs.Transition.{referenceOf, JobSound, zeros-are, Fixed, fixedOf, step-ref, step-fixed}
 use Rattle.guarantees.proofs.Store.{no-job-sound, step-sound, run-store, AllCustomer, log-customer, applied-length, applied-elsewhere, applied-front}
 use Rattle.guarantees.proofs.Alarms.{AlarmsSound, no-alarms, step-alarms, alarm-registers, run-lines}

@@ -2,9 +2,9 @@
 -- Assumes nothing.
 use Prim.Native.Nat.{ℕ}
 use native.Mathlib.Omega.{arith}
-use mathlib.Core.Bool.{Bool, true, false, _&&_, not}
+use mathlib.Core.Bool.{Bool, true, false, cond}
 use mathlib.Core.Logic.{_≢_}
-use mathlib.Core.Path.{_≡_, refl, sym, ap, _∙_}
+use mathlib.Core.Path.{_≡_, refl, ap}
 use Rattle.action.specs.Action.{actionOf}
 use Rattle.action.specs.declared.Action.{Action}
 use Rattle.action.specs.declared.Action.the-variants as action
@@ -12,14 +12,12 @@ use Rattle.jobs.specs.Job.{isBusy, workOf}
 use Rattle.jobs.specs.declared.Work.{Work}
 use Rattle.jobs.specs.declared.Work.the-variants as work
 use Rattle.dom.specs.Codes.{acceptable}
-use Rattle.store.specs.Bytes.{tornStore}
-use Rattle.alarms.specs.Alarms.{poweredAlarms, resetAlarms}
 use Rattle.calls.specs.Calls.{said, step}
 use Rattle.xenpak.specs.Frame.{frame, moduleAfter}
-use Rattle.answers.specs.Answers.{frameAnswer, onAnswer, offAnswer, sampleAnswer, tickAnswer}
+use Rattle.answers.specs.Answers.{frameAnswer, tickAnswer}
 use Rattle.xenpak.specs.Calls as calls
-use Rattle.xenpak.specs.Calls.{withPower, tickBy, sampleBy}
-use Rattle.answers.specs.declared.Refusal.{Refusal}
+use Rattle.xenpak.specs.Calls.{accepted, refused, taken, tickBy}
+use Rattle.answers.specs.declared.Refusal.the-variants.{PoweredOn}
 use Rattle.answers.specs.declared.Answer.the-variants as plain
 use Rattle.answers.specs.declared.FrameAnswer.the-variants as frame-answer
 use Rattle.answers.specs.declared.TickAnswer.the-variants as tick-answer
@@ -29,7 +27,6 @@ use Rattle.calls.specs.declared.Call.{Call}
 use Rattle.calls.specs.declared.Call.the-variants as call
 use Rattle.xenpak.specs.declared.Module.{Module}
 use Rattle.guarantees.specs.Guarantees.{RefusedUnchanged, SilentUnchanged, DroppedUnchanged}
-use Rattle.guarantees.proofs.Transition.{on-again, cut-off}
 
 -- the answers that leave the record
 abbrev leaves : CallAnswer → Bool
@@ -66,31 +63,25 @@ by-tick m work.Nothing byte e = not-so e
 by-tick m (work.Load offset) byte e = not-so e
 by-tick m (work.Burn offset) byte e = not-so e
 
--- a call that needs power
-by-power : (m : Module) (n : Bool → Module) → (m .powered ≡ false → n false ≡ m) → (b : Bool) → m .powered ≡ b → leaves (Plain (onAnswer b)) ≡ true → n b ≡ m
-by-power m n f true p e = not-so e
-by-power m n f false p e = f p
+by-power : (m n : Module) (b right : Bool) → leaves (Plain (taken b right m n .answer)) ≡ true → taken b right m n .next ≡ m
+by-power m n true true e = not-so e
+by-power m n true false e = refl
+by-power m n false right e = refl
 
 unchanged : (m : Module) (c : Call) → leaves (step m c .answer) ≡ true → step m c .next ≡ m
 unfolding step calls.powerOn calls.powerCut calls.resetPin calls.tick calls.lines calls.sample frame
-unchanged m call.PowerOn e = go (m .powered) refl e
+unchanged m call.PowerOn e = go (m .powered) _ e
   where
-    go : (b : Bool) → m .powered ≡ b → leaves (Plain (offAnswer b)) ≡ true
-        → calls.started (not b) (poweredAlarms (not b) (m .alarms)) (withPower true (m .store) m) ≡ m
-    go true p e = on-again m p
-    go false p e = not-so e
-unchanged m (call.Cut cut) e =
-    by-power m (λ b. withPower false (tornStore (m .store) (workOf b (m .job)) cut) m) (cut-off m cut) (m .powered) refl e
-unchanged m call.ResetPin e = by-power m (λ b. calls.started b (resetAlarms b (m .alarms)) m) (λ _. refl) (m .powered) refl e
+    go : (b : Bool) (n : Module) → leaves (Plain (cond b (refused PoweredOn m) (accepted n) .answer)) ≡ true
+        → cond b (refused PoweredOn m) (accepted n) .next ≡ m
+    go true n e = refl
+    go false n e = not-so e
+unchanged m (call.Cut cut) e = by-power m _ (m .powered) true e
+unchanged m call.ResetPin e = by-power m _ (m .powered) true e
 unchanged m (call.Frame word) e = by-frame m (actionOf (m .powered) (m .port) (m .bus .address) (isBusy (m .job)) word) _ e
 unchanged m call.Tick e = by-tick m (workOf (m .powered) (m .job)) _ e
-unchanged m (call.Lines l) e = by-power m (calls.linesBy m l) (λ _. refl) (m .powered) refl e
-unchanged m (call.Sample s) e = go (m .powered) (acceptable (s .temperature)) e
-  where
-    go : (b right : Bool) → leaves (Plain (sampleAnswer b right)) ≡ true → sampleBy m s (b && right) ≡ m
-    go true true e = not-so e
-    go true false e = refl
-    go false right e = refl
+unchanged m (call.Lines l) e = by-power m _ (m .powered) true e
+unchanged m (call.Sample s) e = by-power m _ (m .powered) (acceptable (s .temperature)) e
 
 refused-leaves : (a : CallAnswer) → said a .refusal ≢ 0 → leaves a ≡ true
 refused-leaves (Plain plain.Accepted) f = absurd (f refl)

@@ -16,16 +16,15 @@ use Rattle.lasi.specs.Lasi.{alarmLine}
 use Rattle.answers.specs.Answers.{Said, saidPlain}
 use Rattle.calls.specs.Calls.{said, step, run}
 use Rattle.creation.specs.Creation.{blank, make}
+use Rattle.xenpak.specs.Calls.{accepted}
 use Rattle.xenpak.specs.Frame.{valueAt}
 use Rattle.settling.specs.Settling.{settle}
-use Rattle.answers.specs.declared.Answer.the-variants.{Accepted}
 use Rattle.answers.specs.declared.FrameAnswer.the-variants.{Silent, Dropped}
 use Rattle.answers.specs.declared.SettleAnswer.the-variants.{Ticks}
 use Rattle.calls.specs.declared.CallAnswer.the-variants.{Frame}
 use Rattle.calls.specs.declared.Call.{Call}
 use Rattle.calls.specs.declared.Call.the-variants.{PowerOn, Cut, ResetPin, Frame as Send, Tick, Lines, Sample}
 use Rattle.xenpak.specs.declared.Module.{Module}
-use Rattle.xenpak.specs.declared.Outcome.{Outcome}
 use Rattle.guarantees.specs.Reference.{Reference, initial, runRef, stepRef, customerOffset}
 use Rattle.guarantees.specs.BurnLog.{burnLog, applied}
 use Rattle.guarantees.specs.History.{Event, events, stepEvent, inRange, stands, rxAlarmBit, txAlarmBit, lasiBit, txAlarms, rxAlarms, txWarnings, rxWarnings, lineByHistory}
@@ -61,9 +60,6 @@ linesByHistory port t r h [] = lineByHistory t r h ∷ []
 linesByHistory port t r h (c ∷ cs) = lineByHistory t r h ∷ linesByHistory port t (stepRef port r c) (stepEvent port r c ∷ h) cs
 
 -- ---- demand 3
-abbrev pub accepted : Module → Outcome
-accepted m = record { next = m; answer = Accepted }
-
 -- a clean cut if it is powered, then power-on
 abbrev pub powerCycle : Module → List Call
 powerCycle m = cond (m .powered) (Cut Clean ∷ PowerOn ∷ []) (PowerOn ∷ [])

@@ -121,7 +121,3 @@ jobAfter j (action.Command word) = jobOf word
 jobAfter j (action.Customer offset byte) = j
 jobAfter j (action.Control i word) = j
 jobAfter j (action.Read r increment) = afterRead j r
-
--- after power-on or the reset pin, if it is accepted
-abbrev pub startedJob : Bool → Job → Job
-startedJob accepted j = cond accepted firstLoad j

@@ -1,6 +1,6 @@
 // Register 8000, and the job that a command starts there: a load or a burn, one byte a tick.
 ghost use mathlib.Core.Path.{_≡_};
-ghost use Rattle.jobs.specs.Job.{noJob, firstLoad, commandJob, jobOf, isBusy, statusOf, wordOf, pmaWord, workOf, advanced, afterWork, afterRead, jobAfter, startedJob};
+ghost use Rattle.jobs.specs.Job.{noJob, firstLoad, commandJob, isBusy, statusOf, wordOf, pmaWord, workOf, advanced, afterWork, afterRead, jobAfter};
 use action::Action;
 use nvr::command::Command;
 use nvr::command::kept_bits;
@@ -111,13 +111,6 @@ impl Job {
         }
     }
 
-    // The job of a word written to 8000.
-    pub fn of(word: u16) -> Job
-        ensures { λ r. ⌜ r ≡ jobOf word ⌝ }
-    {
-        Job::by(Command::of(word), kept_bits(word))
-    }
-
     pub fn busy(self) -> bool
         ensures { λ r. ⌜ r ≡ isBusy self ⌝ }
     {
@@ -222,17 +215,10 @@ impl Job {
             Action::SetAddress(_) => self,
             Action::Dropped => self,
             Action::Reset => Job::first_load(),
-            Action::Command(word) => Job::of(word),
+            Action::Command(word) => Job::by(Command::of(word), kept_bits(word)),
             Action::Customer(_, _) => self,
             Action::Control(_, _) => self,
             Action::Read(register, _) => self.after_read(register),
         }
-    }
-
-    // After power-on or the reset pin, if it is accepted.
-    pub fn started(self, accepted: bool) -> Job
-        ensures { λ r. ⌜ r ≡ startedJob accepted self ⌝ }
-    {
-        if accepted { Job::first_load() } else { self }
     }
 }

@@ -2,7 +2,7 @@
 -- Assumes nothing.
 use Prim.Native.Nat.{ℕ, suc, _-_, _/_, _%_}
 use mathlib.Core.Bool.{Bool, true, false, cond, not, _&&_}
-use mathlib.Core.List.{List, [], _∷_}
+use mathlib.Core.List.{[], _∷_}
 use lib.Dec.{eqb}
 use lib.IntN.{ℤ, pos, negsuc}
 use lib.ListN.{getD}
@@ -77,10 +77,6 @@ monitorAfter m (action.Customer offset byte) = m
 monitorAfter m (action.Control i word) = m
 monitorAfter m (action.Read r increment) = afterRead m r
 
--- after power-on or the reset pin, if it is accepted
-abbrev pub startedMonitor : Bool → Monitor → Monitor
-startedMonitor accepted m = cond accepted noMonitor m
-
--- after a sample, if it is accepted: nothing of the byte held changes
-abbrev pub sampledMonitor : Bool → Sample → Monitor → Monitor
-sampledMonitor accepted s m = cond accepted (monitor s (m .held) (m .quantity) (m .byte)) m
+-- after a sample: nothing of the byte held changes
+abbrev pub sampledMonitor : Sample → Monitor → Monitor
+sampledMonitor s m = monitor s (m .held) (m .quantity) (m .byte)

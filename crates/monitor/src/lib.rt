@@ -1,6 +1,6 @@
 // Digital optical monitoring (DOM): the last sample, and the low byte that a read of a high byte holds.
 ghost use mathlib.Core.Path.{_≡_};
-ghost use Rattle.monitor.specs.Monitor.{bitsOf, noMonitor, codeIn, holds, byteOf, valueOf, holding, forgetting, afterSampleRead, afterRead, monitorAfter, startedMonitor, sampledMonitor};
+ghost use Rattle.monitor.specs.Monitor.{bitsOf, noMonitor, codeIn, holds, byteOf, valueOf, holding, forgetting, afterSampleRead, afterRead, monitorAfter, sampledMonitor};
 use action::Action;
 use dom::Sample;
 use registers::Register;
@@ -146,20 +146,11 @@ impl Monitor {
         }
     }
 
-    // After power-on or the reset pin, if it is accepted.
-    pub fn started(self, accepted: bool) -> Monitor
-        ensures { λ r. ⌜ r ≡ startedMonitor accepted self ⌝ }
+    // After a sample.
+    pub fn sampled(mut self, sample: Sample) -> Monitor
+        ensures { λ r. ⌜ r ≡ sampledMonitor sample self ⌝ }
     {
-        if accepted { Monitor::none() } else { self }
-    }
-
-    // After a sample, if it is accepted.
-    pub fn sampled(mut self, accepted: bool, sample: Sample) -> Monitor
-        ensures { λ r. ⌜ r ≡ sampledMonitor accepted sample self ⌝ }
-    {
-        if accepted {
-            self.sample = sample;
-        }
+        self.sample = sample;
         self
     }
 }

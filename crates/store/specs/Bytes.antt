@@ -1,7 +1,6 @@
 -- Store and copy: what a tick, a cut, a frame and a start do to them. Document 01, "Load, burn, cut".
 -- Assumes nothing.
 use Prim.Native.Nat.{ℕ}
-use mathlib.Core.Bool.{Bool, cond}
 use mathlib.Core.List.{List}
 use mathlib.Core.Path.{_≡_}
 use lib.ListN.{getD, set, replicate}
@@ -65,7 +64,3 @@ writtenCopy copy (action.Command word) = copy
 writtenCopy copy (action.Customer offset byte) = set copy offset byte
 writtenCopy copy (action.Control i word) = copy
 writtenCopy copy (action.Read r increment) = copy
-
--- the copy after power-on or the reset pin, if it is accepted
-abbrev pub startedCopy : Bool → List ℕ → List ℕ
-startedCopy accepted copy = cond accepted (zeros 256) copy

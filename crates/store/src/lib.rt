@@ -1,7 +1,7 @@
 // Store and copy: the byte that a tick moves, the byte that a cut leaves, and what writes and starts leave in the copy.
 ghost use mathlib.Core.Path.{_≡_};
 ghost use lib.ListN.{getD};
-ghost use Rattle.store.specs.Bytes.{Moved, tornStore, zeros, writtenCopy, startedCopy};
+ghost use Rattle.store.specs.Bytes.{Moved, tornStore, zeros, writtenCopy};
 use action::Action;
 use jobs::Work;
 
@@ -51,7 +51,7 @@ pub fn tear(store: &mut [u8; 256], work: Work, cut: Cut)
 }
 
 // The copy begins as 256 zeros.
-fn zero(copy: &mut [u8; 256])
+pub fn zero(copy: &mut [u8; 256])
     ensures { λ _. ⌜ now (copy .exit) ≡ zeros 256 ⌝ }
 {
     *copy = [0; 256];
@@ -73,15 +73,6 @@ pub fn write_copy(copy: &mut [u8; 256], action: Action)
         }
         Action::Control(_, _) => {}
         Action::Read(_, _) => {}
-    }
-}
-
-// What power-on or the reset pin leaves in the copy, if it is accepted.
-pub fn start_copy(copy: &mut [u8; 256], accepted: bool)
-    ensures { λ _. ⌜ now (copy .exit) ≡ startedCopy accepted (now (copy .entry)) ⌝ }
-{
-    if accepted {
-        zero(copy);
     }
 }
 

@@ -1,41 +1,55 @@
--- Each call's answer, and the record after it: what the call is to do is decided once, then each part reacts.
+-- Each call's answer, and the record after it. Document 01, "The record and its calls", "Load, burn, cut" and "Alarms".
 -- Assumes nothing.
 use Prim.Native.Nat.{ℕ}
-use mathlib.Core.Bool.{Bool, true, false, not, _&&_}
+use mathlib.Core.Bool.{Bool, true, false, cond}
 use mathlib.Core.List.{List}
-use Rattle.jobs.specs.Job.{workOf, afterWork, startedJob}
-use Rattle.store.specs.Bytes.{movedByte, loadedCopy, burnedStore, tornStore, startedCopy}
+use Rattle.jobs.specs.Job.{workOf, afterWork, firstLoad}
 use Rattle.jobs.specs.declared.Work.{Work}
+use Rattle.store.specs.Bytes.{movedByte, loadedCopy, burnedStore, tornStore, zeros}
 use Rattle.store.specs.declared.Cut.{Cut}
+use Rattle.bus.specs.Bus.{noBus}
 use Rattle.dom.specs.Codes.{acceptable}
 use Rattle.dom.specs.Thresholds.{thresholdsOf}
-use Rattle.monitor.specs.Monitor.{startedMonitor, sampledMonitor}
 use Rattle.dom.specs.declared.Sample.{Sample}
 use Rattle.flags.specs.Flags.{flagsOf}
-use Rattle.alarms.specs.Alarms.{poweredAlarms, resetAlarms, afterLines, afterSample}
+use Rattle.monitor.specs.Monitor.{noMonitor, sampledMonitor}
+use Rattle.monitor.specs.declared.Monitor.{Monitor}
+use Rattle.alarms.specs.Alarms.{noAlarms, restarted, afterLines, afterSample}
 use Rattle.alarms.specs.declared.Alarms.{Alarms}
 use Rattle.alarms.specs.declared.Lines.{Lines}
-use Rattle.bus.specs.Bus.{startedBus}
-use Rattle.answers.specs.Answers.{onAnswer, offAnswer, sampleAnswer, tickAnswer}
+use Rattle.answers.specs.Answers.{tickAnswer}
+use Rattle.answers.specs.declared.Answer.the-variants.{Accepted, Refused}
+use Rattle.answers.specs.declared.Refusal.{Refusal}
+use Rattle.answers.specs.declared.Refusal.the-variants.{Temperature, PoweredOff, PoweredOn}
 use Rattle.xenpak.specs.declared.Module.{Module}
 use Rattle.xenpak.specs.declared.Outcome.{Outcome}
 use Rattle.xenpak.specs.declared.TickOutcome.{TickOutcome}
 
+abbrev pub accepted : Module → Outcome
+accepted m = record { next = m; answer = Accepted }
+
+-- a refusal gives the record unchanged
+abbrev pub refused : Refusal → Module → Outcome
+refused why m = record { next = m; answer = Refused why }
+
+-- a call that needs power and right arguments, and would leave the record `next`: 7 precedes 6
+abbrev pub taken : Bool → Bool → Module → Module → Outcome
+taken powered right m next = cond powered (cond right (accepted next) (refused Temperature m)) (refused PoweredOff m)
+
 -- ---- starts
--- what power-on and reset share, if it is accepted: a first load, with copy, address, last sample, held byte and counter
--- at zero
-abbrev pub started : Bool → Alarms → Module → Module
-started accepted alarms m =
+-- what power-on and reset share: a first load, with copy, address, last sample, held byte and counter at zero
+abbrev pub started : Alarms → Module → Module
+started alarms m =
     record {
       store = m .store;
-      job = startedJob accepted (m .job);
-      copy = startedCopy accepted (m .copy);
+      job = firstLoad;
+      copy = zeros 256;
       powered = m .powered;
       port = m .port;
       thresholds = m .thresholds;
-      bus = startedBus accepted (m .bus);
+      bus = noBus;
       alarms = alarms;
-      monitor = startedMonitor accepted (m .monitor);
+      monitor = noMonitor;
     }
 
 -- the store and the power of a module after a cut, or its power after power-on
@@ -53,26 +67,21 @@ withPower powered store m =
       monitor = m .monitor;
     }
 
+-- power-on also zeroes the lines; 8: it is powered
 unfoldable pub powerOn : Module → Outcome
-powerOn m =
-    record {
-      next = started (not (m .powered)) (poweredAlarms (not (m .powered)) (m .alarms)) (withPower true (m .store) m);
-      answer = offAnswer (m .powered);
-    }
+powerOn m = cond (m .powered) (refused PoweredOn m) (accepted (started noAlarms (withPower true (m .store) m)))
 
 unfoldable pub resetPin : Module → Outcome
-resetPin m =
-    record { next = started (m .powered) (resetAlarms (m .powered) (m .alarms)) m; answer = onAnswer (m .powered) }
+resetPin m = taken (m .powered) true m (started (restarted (m .alarms)) m)
 
--- the power goes; the other fields keep their values
+-- ---- cut: the power goes; the other fields keep their values
+abbrev pub afterCut : Module → Cut → Module
+afterCut m cut = withPower false (tornStore (m .store) (workOf true (m .job)) cut) m
+
 unfoldable pub powerCut : Module → Cut → Outcome
-powerCut m cut =
-    record {
-      next = withPower false (tornStore (m .store) (workOf (m .powered) (m .job)) cut) m;
-      answer = onAnswer (m .powered);
-    }
+powerCut m cut = taken (m .powered) true m (afterCut m cut)
 
--- ---- tick, lines, sample
+-- ---- tick
 abbrev pub tickBy : Module → Work → TickOutcome
 tickBy m w =
     record {
@@ -94,8 +103,9 @@ tickBy m w =
 unfoldable pub tick : Module → TickOutcome
 tick m = tickBy m (workOf (m .powered) (m .job))
 
-abbrev pub linesBy : Module → Lines → Bool → Module
-linesBy m l accepted =
+-- ---- lines, sample
+abbrev pub withAlarms : Alarms → Monitor → Module → Module
+withAlarms alarms monitor m =
     record {
       store = m .store;
       job = m .job;
@@ -104,30 +114,20 @@ linesBy m l accepted =
       port = m .port;
       thresholds = m .thresholds;
       bus = m .bus;
-      alarms = afterLines accepted (m .alarms) l;
-      monitor = m .monitor;
+      alarms = alarms;
+      monitor = monitor;
     }
+
+abbrev pub lined : Module → Lines → Module
+lined m l = withAlarms (afterLines (m .alarms) l) (m .monitor) m
 
 unfoldable pub lines : Module → Lines → Outcome
-lines m l = record { next = linesBy m l (m .powered); answer = onAnswer (m .powered) }
+lines m l = taken (m .powered) true m (lined m l)
 
-abbrev pub sampleBy : Module → Sample → Bool → Module
-sampleBy m s accepted =
-    record {
-      store = m .store;
-      job = m .job;
-      copy = m .copy;
-      powered = m .powered;
-      port = m .port;
-      thresholds = m .thresholds;
-      bus = m .bus;
-      alarms = afterSample accepted (m .alarms) (flagsOf (thresholdsOf (m .thresholds)) s);
-      monitor = sampledMonitor accepted s (m .monitor);
-    }
+abbrev pub sampled : Module → Sample → Module
+sampled m s =
+    withAlarms (afterSample (m .alarms) (flagsOf (thresholdsOf (m .thresholds)) s)) (sampledMonitor s (m .monitor)) m
 
+-- 6: temperature out of range
 unfoldable pub sample : Module → Sample → Outcome
-sample m s =
-    record {
-      next = sampleBy m s (m .powered && acceptable (s .temperature));
-      answer = sampleAnswer (m .powered) (acceptable (s .temperature));
-    }
+sample m s = taken (m .powered) (acceptable (s .temperature)) m (sampled m s)

@@ -9,5 +9,6 @@ lines-spec =
     tie.close
     (tie.spec
     (λ c κs. search needs)
-    (λ c. rw (c .lines-taken .ensures, c .before .if1 .taken))
-    (λ c. rw (c .if1 .left)))
+    (λ c κs. search needs)
+    (λ c κs. search needs)
+    (λ c. rw (c .before .differ .ensures, c .before .before .before .before .fed2 .ensures, c .before .before .before .before .before .before .fed .ensures)))

@@ -9,5 +9,7 @@ sampled-spec =
     tie.close
     (tie.spec
     (λ c κs. search needs)
-    (λ c. rw (c .flags-taken .ensures, c .before .if1 .taken))
-    (λ c. rw (c .if1 .left)))
+    (λ c κs. search needs)
+    (λ c κs. search needs)
+    (λ c κs. search needs)
+    (λ c. rw (c .fed4 .ensures, c .before .fed3 .ensures, c .before .before .fed2 .ensures, c .before .before .before .fed .ensures)))

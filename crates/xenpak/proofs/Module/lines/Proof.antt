@@ -12,4 +12,4 @@ lines-spec =
     (tie.spec
     (λ c κs. search needs)
     (λ c κs. search needs)
-    (λ c. rw (c .lines .ensures, c .before .before .on .ensures)))
+    (λ c. rw (c .taken .ensures, c .before .lines .ensures)))

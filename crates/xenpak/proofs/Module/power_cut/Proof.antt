@@ -13,4 +13,4 @@ power-cut-spec =
     (λ c κs. search needs)
     (λ c κs. search needs)
     (λ c κs. search needs)
-    (λ c. rw (c .tear .ensures, c .before .before .before .work .ensures, c .before .before .before .before .before .on .ensures)))
+    (λ c. rw (c .taken .ensures, c .before .tear .ensures, c .before .before .work .ensures)))

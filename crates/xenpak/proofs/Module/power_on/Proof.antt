@@ -10,7 +10,7 @@ unfolding powerOn
 power-on-spec =
     tie.close
     (tie.spec
+    (λ c. rw (c .if1 .taken))
     (λ c κs. search needs)
     (λ c κs. search needs)
-    (λ c κs. search needs)
-    (λ c. rw (c .started .ensures, c .before .powered .ensures, c .before .before .before .off .ensures)))
+    (λ c. rw (c .started .ensures, c .before .none .ensures, c .before .before .if1 .left)))

@@ -13,4 +13,4 @@ reset-pin-spec =
     (λ c κs. search needs)
     (λ c κs. search needs)
     (λ c κs. search needs)
-    (λ c. rw (c .started .ensures, c .before .reset .ensures, c .before .before .before .on .ensures)))
+    (λ c. rw (c .taken .ensures, c .before .started .ensures, c .before .before .restarted .ensures)))

@@ -19,4 +19,4 @@ sample-spec =
     (λ c κs. search needs)
     (λ c κs. search needs)
     (λ c κs. search needs)
-    (λ c. let h : SFits w16 (c .before .before .before .before .before .before .before .before .before .before .before .args .given .temperature) = search (needs, c .before .before .before .before .before .before .before .before .before .before .struct-told .given) in rw (c .sampled2 .ensures, c .before .sampled .ensures, c .before .before .before .before .flags-of .ensures, c .before .before .before .before .before .thresholds-of .ensures, c .before .before .before .before .before .before .before .before .sample .ensures, c .before .before .before .before .before .before .before .before .before .acceptable .ensures, toZ-ofZ h)))
+    (λ c. let fits : SFits w16 (c .before .before .before .before .before .before .before .before .before .before .before .args .given .temperature) = search (needs, c .before .before .struct-told .given) in rw (c .taken .ensures, c .before .acceptable .ensures, c .before .before .before .sampled2 .ensures, c .before .before .before .before .sampled .ensures, c .before .before .before .before .before .before .before .flags-of .ensures, c .before .before .before .before .before .before .before .before .thresholds-of .ensures, toZ-ofZ fits)))

@@ -12,4 +12,4 @@ started-spec =
     (λ c κs. search needs)
     (λ c κs. search needs)
     (λ c κs. search needs)
-    (λ c. rw (c .start-copy .ensures, c .before .before .before .started3 .ensures, c .before .before .before .before .started2 .ensures, c .before .before .before .before .before .started .ensures)))
+    (λ c. rw (c .none .ensures, c .before .zero2 .ensures, c .before .before .first-load .ensures, c .before .before .before .zero .ensures)))
