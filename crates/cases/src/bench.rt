@@ -1,9 +1,7 @@
 // A module on the bench, with port 5.
 use crate::print::answer_of;
-use crate::print::number;
-use crate::print::refusal;
+use crate::print::settled;
 use answers::Answer;
-use answers::SettleAnswer;
 use calls::Call;
 use calls::CallAnswer;
 use creation::make;
@@ -59,7 +57,7 @@ fn first(bytes: &[u8], n: usize) -> &[u8] {
 }
 
 // A module made of so much of the image and of the thresholds, with this checksum and this threshold code at a byte.
-pub fn made(
+fn made(
     port: u8,
     image_length: usize,
     thresholds_length: usize,
@@ -80,6 +78,18 @@ pub fn made(
         module: next,
         answer: CallAnswer::Plain(answer),
     }
+}
+
+// The same, and its answer is shown.
+pub fn shown_made(
+    port: u8,
+    image_length: usize,
+    thresholds_length: usize,
+    checksum: u8,
+    at: usize,
+    code: u16,
+) -> Bench {
+    made(port, image_length, thresholds_length, checksum, at, code).show()
 }
 
 pub fn fresh() -> Bench {
@@ -136,10 +146,7 @@ impl Bench {
         let outcome = settle(module, budget);
         let next = outcome.next;
         let answer = outcome.answer;
-        match answer {
-            SettleAnswer::Ticks(n) => number(n),
-            SettleAnswer::Refused(why) => refusal(why),
-        }
+        settled(answer);
         Bench {
             module: next,
             answer: CallAnswer::Plain(Answer::Accepted),

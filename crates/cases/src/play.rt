@@ -4,7 +4,7 @@ use crate::bench::READ_FRAME;
 use crate::bench::READ_INCREMENT_FRAME;
 use crate::bench::fresh;
 use crate::bench::loaded;
-use crate::bench::made;
+use crate::bench::shown_made;
 use crate::print::number;
 use crate::print::text;
 use crate::print::word;
@@ -69,10 +69,10 @@ fn done(b: Bench, kind: u64, n: u32) -> Bench {
         TICKS => b.repeated(Call::Tick, n),
         READS => b.repeated(Call::Frame(READ_FRAME), n),
         LOADED => loaded(),
-        MAKE => made(port, image, thresholds, 0xf7, 0, 0x4600).show(),
-        MAKE_WRONG => made(port, image, thresholds, 0xf8, 0, 0x4000).show(),
-        CHECKSUM => made(31, 256, 40, (n % 256) as u8, 0, 0x4600).show(),
-        _ => made(31, 256, 40, 0xf7, high as usize, low).show(),
+        MAKE => shown_made(port, image, thresholds, 0xf7, 0, 0x4600),
+        MAKE_WRONG => shown_made(port, image, thresholds, 0xf8, 0, 0x4000),
+        CHECKSUM => shown_made(31, 256, 40, (n % 256) as u8, 0, 0x4600),
+        _ => shown_made(31, 256, 40, 0xf7, high as usize, low),
     }
 }
 

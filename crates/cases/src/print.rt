@@ -2,6 +2,7 @@
 use answers::Answer;
 use answers::FrameAnswer;
 use answers::Refusal;
+use answers::SettleAnswer;
 use answers::TickAnswer;
 use calls::CallAnswer;
 use libc::STDOUT_FILENO;
@@ -23,7 +24,7 @@ pub fn number(n: u32) {
 }
 
 // Document 01's number of a refusal.
-pub fn refusal(why: Refusal) {
+fn refusal(why: Refusal) {
     let n = match why {
         Refusal::Port => 1,
         Refusal::ImageLength => 2,
@@ -61,6 +62,13 @@ fn ticked(answer: TickAnswer) {
         TickAnswer::Loaded(offset, byte) => moved(b" loaded", offset, byte),
         TickAnswer::Burned(offset, byte) => moved(b" burned", offset, byte),
         TickAnswer::Refused(why) => refusal(why),
+    }
+}
+
+pub fn settled(answer: SettleAnswer) {
+    match answer {
+        SettleAnswer::Ticks(n) => number(n),
+        SettleAnswer::Refused(why) => refusal(why),
     }
 }
 

@@ -91,6 +91,12 @@ fn row(name: &[u8], state: &[u64], addresses: &[u16]) {
     cells(run(run(fresh(), state), &alarmed), addresses);
 }
 
+fn rows(addresses: &[u16]) {
+    row(b"idle    ", &IDLE, addresses);
+    row(b"loading ", &LOADING, addresses);
+    row(b"burning ", &BURNING, addresses);
+}
+
 pub fn cases() {
     let low = LOW;
     let high = HIGH;
@@ -98,14 +104,10 @@ pub fn cases() {
         b"register   0000   0001   8000   8001   8006   8007   807d   807e   80ad   80ae   8106   8107",
     );
     text(b"   9000   9001   9002   9003   9004   9005   9006   9007\n");
-    row(b"idle    ", &IDLE, &low);
-    row(b"loading ", &LOADING, &low);
-    row(b"burning ", &BURNING, &low);
+    rows(&low);
     text(
         b"register   9008   a000   a008   a00f   a010   a027   a028   a060   a061   a062   a063   a064",
     );
     text(b"   a069   a06a   a070   a071   a072   a074   a075   ffff\n");
-    row(b"idle    ", &IDLE, &high);
-    row(b"loading ", &LOADING, &high);
-    row(b"burning ", &BURNING, &high);
+    rows(&high);
 }
