@@ -10,15 +10,8 @@ impl Action {
         ensures { λ r. ⌜ r ≡ registerOf self ⌝ }
     {
         match self {
-            Action::Refused => Register::Unlisted,
-            Action::Silent => Register::Unlisted,
-            Action::SetAddress(_) => Register::Unlisted,
-            Action::Dropped => Register::Unlisted,
-            Action::Reset => Register::Unlisted,
-            Action::Command(_) => Register::Unlisted,
-            Action::Customer(_, _) => Register::Unlisted,
-            Action::Control(_, _) => Register::Unlisted,
             Action::Read(register, _) => register,
+            _ => Register::Unlisted,
         }
     }
 }

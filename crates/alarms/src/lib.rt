@@ -107,16 +107,9 @@ impl Alarms {
         ensures { λ r. ⌜ r ≡ afterRead self register ⌝ }
     {
         match register {
-            Register::PmaControl => self,
-            Register::NvrControl => self,
-            Register::Copy(_) => self,
-            Register::Customer(_) => self,
-            Register::Control(_) => self,
             Register::Status(i) => self.status_cleared(i),
-            Register::Threshold(_) => self,
-            Register::Sample(_, _) => self,
             Register::Flags(i) => self.flags_cleared(i),
-            Register::Unlisted => self,
+            _ => self,
         }
     }
 
@@ -152,15 +145,10 @@ impl Alarms {
         ensures { λ r. ⌜ r ≡ alarmsAfter self action ⌝ }
     {
         match action {
-            Action::Refused => self,
-            Action::Silent => self,
-            Action::SetAddress(_) => self,
-            Action::Dropped => self,
             Action::Reset => self.restarted(),
-            Action::Command(_) => self,
-            Action::Customer(_, _) => self,
             Action::Control(i, word) => self.controlled(i, word),
             Action::Read(register, _) => self.after_read(register),
+            _ => self,
         }
     }
 

@@ -51,18 +51,13 @@ impl Bus {
         ensures { λ r. ⌜ r ≡ busAfter self action ⌝ }
     {
         match action {
-            Action::Refused => self,
-            Action::Silent => self,
             Action::SetAddress(address) => {
                 self.address = address;
                 self
             }
-            Action::Dropped => self,
             Action::Reset => Bus::zero(),
-            Action::Command(_) => self,
-            Action::Customer(_, _) => self,
-            Action::Control(_, _) => self,
             Action::Read(_, increment) => self.read(increment),
+            _ => self,
         }
     }
 }

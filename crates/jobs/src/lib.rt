@@ -189,19 +189,11 @@ impl Job {
         ensures { λ r. ⌜ r ≡ afterRead self register ⌝ }
     {
         match register {
-            Register::PmaControl => self,
             Register::NvrControl => {
                 self.ended = 0;
                 self
             }
-            Register::Copy(_) => self,
-            Register::Customer(_) => self,
-            Register::Control(_) => self,
-            Register::Status(_) => self,
-            Register::Threshold(_) => self,
-            Register::Sample(_, _) => self,
-            Register::Flags(_) => self,
-            Register::Unlisted => self,
+            _ => self,
         }
     }
 
@@ -210,15 +202,10 @@ impl Job {
         ensures { λ r. ⌜ r ≡ jobAfter self action ⌝ }
     {
         match action {
-            Action::Refused => self,
-            Action::Silent => self,
-            Action::SetAddress(_) => self,
-            Action::Dropped => self,
             Action::Reset => Job::first_load(),
             Action::Command(word) => Job::by(Command::of(word), kept_bits(word)),
-            Action::Customer(_, _) => self,
-            Action::Control(_, _) => self,
             Action::Read(register, _) => self.after_read(register),
+            _ => self,
         }
     }
 }

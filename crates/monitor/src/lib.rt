@@ -116,16 +116,8 @@ impl Monitor {
         ensures { λ r. ⌜ r ≡ afterRead self register ⌝ }
     {
         match register {
-            Register::PmaControl => self,
-            Register::NvrControl => self,
-            Register::Copy(_) => self,
-            Register::Customer(_) => self,
-            Register::Control(_) => self,
-            Register::Status(_) => self,
-            Register::Threshold(_) => self,
             Register::Sample(quantity, low) => self.after_sample_read(quantity, low),
-            Register::Flags(_) => self,
-            Register::Unlisted => self,
+            _ => self,
         }
     }
 
@@ -134,15 +126,9 @@ impl Monitor {
         ensures { λ r. ⌜ r ≡ monitorAfter self action ⌝ }
     {
         match action {
-            Action::Refused => self,
-            Action::Silent => self,
-            Action::SetAddress(_) => self,
-            Action::Dropped => self,
             Action::Reset => Monitor::none(),
-            Action::Command(_) => self,
-            Action::Customer(_, _) => self,
-            Action::Control(_, _) => self,
             Action::Read(register, _) => self.after_read(register),
+            _ => self,
         }
     }
 

@@ -121,16 +121,16 @@ impl Module {
     }
 
     // The power goes; a torn cut (document 01: struck) leaves its byte where a burn is due.
-    pub fn power_cut(self, cut: Cut) -> Outcome
+    pub fn power_cut(mut self, cut: Cut) -> Outcome
         ensures { λ r. ⌜ r ≡ powerCut self cut ⌝ }
     {
+        let before = self;
         let job = self.job;
         let mut store = self.store;
         tear(&mut store, job.work(true), cut);
-        let mut dark = self;
-        dark.store = store;
-        dark.powered = false;
-        self.taken(true, dark)
+        self.store = store;
+        self.powered = false;
+        before.taken(true, self)
     }
 
     // One byte of the job, if one is due.
@@ -155,28 +155,31 @@ impl Module {
     }
 
     // The lines report faults and link levels.
-    pub fn lines(self, given: Lines) -> Outcome
+    pub fn lines(mut self, given: Lines) -> Outcome
         ensures { λ r. ⌜ r ≡ lines self given ⌝ }
     {
+        let before = self;
         let alarms = self.alarms;
-        let mut next = self;
-        next.alarms = alarms.lines(given);
-        self.taken(true, next)
+        let fed = alarms.lines(given);
+        self.alarms = fed;
+        before.taken(true, self)
     }
 
     // The monitor reports a sample; one out of range is refused with 6.
-    pub fn sample(self, given: Sample) -> Outcome
+    pub fn sample(mut self, given: Sample) -> Outcome
         ensures { λ r. ⌜ r ≡ sample self given ⌝ }
     {
+        let before = self;
         let thresholds = self.thresholds;
         let table = thresholds_of(&thresholds);
         let flags = flags_of(table, given);
         let alarms = self.alarms;
         let monitor = self.monitor;
-        let mut next = self;
-        next.alarms = alarms.sampled(flags);
-        next.monitor = monitor.sampled(given);
-        self.taken(acceptable(given.temperature), next)
+        let next_alarms = alarms.sampled(flags);
+        let next_monitor = monitor.sampled(given);
+        self.alarms = next_alarms;
+        self.monitor = next_monitor;
+        before.taken(acceptable(given.temperature), self)
     }
 
     // Each part after a frame.
