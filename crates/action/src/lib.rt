@@ -40,14 +40,9 @@ fn write_to(register: Register, busy: bool, value: u16) -> Action
     match register {
         Register::PmaControl => when(bit(15, value), Action::Reset),
         Register::NvrControl => when(!busy, Action::Command(value)),
-        Register::Copy(_) => Action::Dropped,
         Register::Customer(offset) => when(!busy, Action::Customer(offset, (value % 256) as u8)),
         Register::Control(i) => Action::Control(i, value),
-        Register::Status(_) => Action::Dropped,
-        Register::Threshold(_) => Action::Dropped,
-        Register::Sample(_, _) => Action::Dropped,
-        Register::Flags(_) => Action::Dropped,
-        Register::Unlisted => Action::Dropped,
+        _ => Action::Dropped,
     }
 }
 

@@ -55,11 +55,8 @@ impl FrameAnswer {
             Action::Silent => FrameAnswer::Silent,
             Action::SetAddress(_) => FrameAnswer::Set,
             Action::Dropped => FrameAnswer::Dropped,
-            Action::Reset => FrameAnswer::Written,
-            Action::Command(_) => FrameAnswer::Written,
-            Action::Customer(_, _) => FrameAnswer::Written,
-            Action::Control(_, _) => FrameAnswer::Written,
             Action::Read(_, _) => FrameAnswer::Data(value),
+            _ => FrameAnswer::Written,
         }
     }
 }

@@ -8,7 +8,7 @@ use lib.ListN.{length}
 use Rattle.nvr.specs.Image.{checksumRight}
 use Rattle.jobs.specs.Job.{noJob}
 use Rattle.store.specs.Bytes.{zeros}
-use Rattle.dom.specs.Thresholds.{thresholdsOf, ordered}
+use Rattle.thresholds.specs.Thresholds.{thresholdsOf, ordered}
 use Rattle.monitor.specs.Monitor.{noMonitor}
 use Rattle.alarms.specs.Alarms.{noAlarms}
 use Rattle.bus.specs.Bus.{noBus}

@@ -6,11 +6,11 @@ use alarms::Alarms;
 use answers::Answer;
 use answers::Refusal;
 use bus::Bus;
-use dom::thresholds::ordered;
-use dom::thresholds::thresholds_of;
 use jobs::Job;
 use monitor::Monitor;
 use nvr::image::checksum_right;
+use thresholds::ordered;
+use thresholds::thresholds_of;
 use xenpak::Module;
 use xenpak::Outcome;
 

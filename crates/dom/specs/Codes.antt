@@ -1,14 +1,10 @@
--- 16-bit codes: two bytes, high byte first; a temperature's is signed, in 1/256 degree.
+-- 16-bit codes; a temperature's is signed, in 1/256 degree.
 -- Assumes nothing.
-use Prim.Native.Nat.{ℕ, _+_, _*_}
+use Prim.Native.Nat.{ℕ}
 use mathlib.Core.Bool.{Bool, cond, _&&_}
 use lib.Dec.{ltb}
 use lib.IntN.{ℤ, pos, subℕ}
 use lib.Signed.{leZ}
-
--- the code of two bytes
-abbrev pub codeOf : ℕ → ℕ → ℕ
-codeOf high low = high * 256 + low
 
 -- a code as a signed number: from 8000 on, less 10000
 abbrev pub signedCode : ℕ → ℤ

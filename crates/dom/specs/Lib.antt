@@ -1,4 +1,3 @@
 -- What the contracts of `dom` cite.
 pub mod Codes
-pub mod Thresholds
 pub mod Readout

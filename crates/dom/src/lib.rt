@@ -1,9 +1,8 @@
-// Digital optical monitoring (DOM): codes, thresholds and their order, and the temperature readout.
+// Digital optical monitoring (DOM): samples and their codes, and the temperature readout.
 ghost use mathlib.Core.Path.{_≡_};
-ghost use Rattle.dom.specs.Codes.{codeOf, signedCode, acceptable};
+ghost use Rattle.dom.specs.Codes.{signedCode, acceptable};
 
 pub mod readout;
-pub mod thresholds;
 
 // The quantities, in the order of their thresholds and registers.
 pub const TEMPERATURE: usize = 0;
@@ -21,13 +20,6 @@ pub struct Sample {
     pub bias: u16,
     pub transmit: u16,
     pub receive: u16,
-}
-
-// The code of two bytes, high byte first.
-pub(crate) fn code_of(high: u8, low: u8) -> u16
-    ensures { λ r. ⌜ r ≡ codeOf high low ⌝ }
-{
-    high as u16 * 256 + low as u16
 }
 
 // A code as a signed number.

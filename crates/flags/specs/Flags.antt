@@ -8,7 +8,7 @@ use lib.ListN.{getD}
 use lib.Signed.{ltZ}
 use Rattle.words.specs.Words.{ofBits}
 use Rattle.dom.specs.Codes.{temperature, bias, transmit, receive}
-use Rattle.dom.specs.Thresholds.{highAlarm, lowAlarm, highWarning, lowWarning}
+use Rattle.thresholds.specs.Thresholds.{highAlarm, lowAlarm, highWarning, lowWarning}
 use Rattle.dom.specs.declared.Sample.{Sample}
 use Rattle.flags.specs.declared.Flags.{Flags}
 

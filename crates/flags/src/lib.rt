@@ -8,10 +8,10 @@ use dom::RECEIVE;
 use dom::Sample;
 use dom::TEMPERATURE;
 use dom::TRANSMIT;
-use dom::thresholds::HIGH_ALARM;
-use dom::thresholds::HIGH_WARNING;
-use dom::thresholds::LOW_ALARM;
-use dom::thresholds::LOW_WARNING;
+use thresholds::HIGH_ALARM;
+use thresholds::HIGH_WARNING;
+use thresholds::LOW_ALARM;
+use thresholds::LOW_WARNING;
 use words::of_bits;
 
 // The words of A070, A071, A074 and A075 (MSA: TX_FLAG and RX_FLAG).

@@ -13,7 +13,7 @@ use Rattle.words.specs.Words.{bit, ofBits, share}
 use Rattle.words.proofs.Laws.{bit-and, bit-or, bit-zero, bit-ofBits, any-same}
 use Rattle.registers.specs.declared.Register.{Register}
 use Rattle.registers.specs.declared.Register.the-variants as register
-use Rattle.dom.specs.Thresholds.{thresholdsOf}
+use Rattle.thresholds.specs.Thresholds.{thresholdsOf}
 use Rattle.flags.specs.Flags.{Side, alarm, warning, txBits, rxBits, flagsOf}
 use Rattle.latch.specs.Latch.{noLatch, fed, cleared, latched}
 use Rattle.alarms.specs.Alarms as alarms

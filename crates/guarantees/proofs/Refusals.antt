@@ -21,7 +21,7 @@ use Rattle.jobs.specs.Job.{isBusy, workOf}
 use Rattle.store.specs.Bytes.{movedByte}
 use Rattle.jobs.specs.declared.Job.{Job}
 use Rattle.dom.specs.Codes.{acceptable}
-use Rattle.dom.specs.Thresholds.{thresholdsOf, ordered}
+use Rattle.thresholds.specs.Thresholds.{thresholdsOf, ordered}
 use Rattle.answers.specs.Answers.{saidPlain, saidFrame, saidTick, frameAnswer, tickAnswer}
 use Rattle.calls.specs.Calls.{step}
 use Rattle.xenpak.specs.Frame.{frame, valueAt}

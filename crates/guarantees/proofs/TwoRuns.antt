@@ -15,7 +15,7 @@ use Rattle.store.specs.Bytes.{tornStore}
 use Rattle.jobs.specs.declared.Work.{Work}
 use Rattle.jobs.specs.declared.Work.the-variants as work
 use Rattle.store.specs.declared.Cut.the-variants.{Clean}
-use Rattle.dom.specs.Thresholds.{thresholdsOf, ordered}
+use Rattle.thresholds.specs.Thresholds.{thresholdsOf, ordered}
 use Rattle.creation.specs.Creation.{fresh, refused, judgedBy, make}
 use Rattle.calls.specs.Calls.{step, run}
 use Rattle.xenpak.specs.Calls.{powerOn, powerCut}

@@ -10,7 +10,7 @@ use lib.ListN.{length, getD, replicate}
 use Rattle.words.specs.Words.{bit}
 use Rattle.registers.specs.declared.Register.the-variants.{Status, Flags}
 use Rattle.nvr.specs.Image.{checksumRight}
-use Rattle.dom.specs.Thresholds.{thresholdsOf, ordered}
+use Rattle.thresholds.specs.Thresholds.{thresholdsOf, ordered}
 use Rattle.store.specs.declared.Cut.the-variants.{Clean}
 use Rattle.lasi.specs.Lasi.{alarmLine}
 use Rattle.answers.specs.Answers.{Said, saidPlain}

@@ -16,7 +16,7 @@ use Rattle.registers.specs.Map.{registerAt}
 use Rattle.registers.specs.declared.Register.{Register}
 use Rattle.registers.specs.declared.Register.the-variants.{PmaControl, NvrControl, Copy, Customer, Control, Status, Threshold, Sample, Flags, Unlisted}
 use Rattle.dom.specs.Codes.{temperature, bias, transmit, receive}
-use Rattle.dom.specs.Thresholds.{thresholdsOf}
+use Rattle.thresholds.specs.Thresholds.{thresholdsOf}
 use Rattle.dom.specs.declared.Sample.{Sample as Reading}
 use Rattle.flags.specs.Flags.{Side, high, low, alarm, warning, codesOf, crossed}
 use Rattle.alarms.specs.declared.Lines.{Lines}

@@ -2,7 +2,6 @@
 ghost use mathlib.Core.Path.{_≡_};
 ghost use Rattle.values.specs.Values.{registerValue};
 use alarms::Alarms;
-use dom::thresholds;
 use jobs::Job;
 use lasi::flags_at;
 use lasi::status_at;

@@ -9,7 +9,7 @@ use Rattle.store.specs.Bytes.{movedByte, loadedCopy, burnedStore, tornStore, ze
 use Rattle.store.specs.declared.Cut.{Cut}
 use Rattle.bus.specs.Bus.{noBus}
 use Rattle.dom.specs.Codes.{acceptable}
-use Rattle.dom.specs.Thresholds.{thresholdsOf}
+use Rattle.thresholds.specs.Thresholds.{thresholdsOf}
 use Rattle.dom.specs.declared.Sample.{Sample}
 use Rattle.flags.specs.Flags.{flagsOf}
 use Rattle.monitor.specs.Monitor.{noMonitor, sampledMonitor}

@@ -13,7 +13,6 @@ use answers::TickAnswer;
 use bus::Bus;
 use dom::Sample;
 use dom::acceptable;
-use dom::thresholds::thresholds_of;
 use flags::flags_of;
 use jobs::Job;
 use monitor::Monitor;
@@ -22,6 +21,7 @@ use store::move_byte;
 use store::tear;
 use store::write_copy;
 use store::zero;
+use thresholds::thresholds_of;
 use values::register_value;
 
 #[repr(C)]

@@ -1,11 +1,11 @@
--- `dom::thresholds::byte_at` meets its contract.
+-- `thresholds::byte_at` meets its contract.
 -- Assumes nothing.
 use mathlib.Core.Path.{_≡_, sym}
 use native.Mathlib.Omega.{arith}
 use lib.ListN.{length, List·getD-eq-default}
 use borrow.Author.Needs.{needs}
-use Rattle.dom.proofs.thresholds.byte_at.Statement.{statement}
-use Rattle.dom.proofs.thresholds.byte_at.Tie as tie
+use Rattle.thresholds.proofs.byte_at.Statement.{statement}
+use Rattle.thresholds.proofs.byte_at.Tie as tie
 
 pub byte-at-spec : {M : Type 1} → statement M
 byte-at-spec =

@@ -4,10 +4,9 @@ ghost use mathlib.Core.Bool.{cond};
 ghost use Prim.Native.Nat.{_≤_};
 ghost use lib.IntN.{pos};
 ghost use lib.ListN.{getD};
 ghost use Rattle.dom.specs.Codes.{signedCode};
-ghost use Rattle.dom.specs.Thresholds.{codeAt, rowAt, thresholdsOf, rowOrdered, ordered};
-use crate::code_of;
-use crate::signed_code;
+ghost use Rattle.thresholds.specs.Thresholds.{codeOf, codeAt, rowAt, thresholdsOf, rowOrdered, ordered};
+use dom::signed_code;
 
 // The columns of a quantity's row.
 pub const HIGH_ALARM: usize = 0;
@@ -17,6 +16,13 @@ pub const LOW_ALARM: usize = 1;
 pub const HIGH_WARNING: usize = 2;
 
 pub const LOW_WARNING: usize = 3;
+
+// The code of two bytes, high byte first.
+fn code_of(high: u8, low: u8) -> u16
+    ensures { λ r. ⌜ r ≡ codeOf high low ⌝ }
+{
+    high as u16 * 256 + low as u16
+}
 
 // The code at an offset as a number, signed or not.
 fn number_at(bytes: &[u8; 40], at: usize, signed: bool) -> i32

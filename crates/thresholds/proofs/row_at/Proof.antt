@@ -1,10 +1,10 @@
--- `dom::thresholds::row_at` meets its contract: the array holds what the four calls returned.
+-- `thresholds::row_at` meets its contract: the array holds what the four calls returned.
 -- Assumes nothing.
 use borrow.Author.Needs.{needs}
 use mir.Syntax.{w32}
 use Rattle.dom.proofs.Signed.{back}
-use Rattle.dom.proofs.thresholds.row_at.Statement.{statement}
-use Rattle.dom.proofs.thresholds.row_at.Tie as tie
+use Rattle.thresholds.proofs.row_at.Statement.{statement}
+use Rattle.thresholds.proofs.row_at.Tie as tie
 
 pub row-at-spec : {M : Type 1} → statement M
 row-at-spec =

@@ -1,12 +1,16 @@
--- The 40 threshold bytes as codes, and their order.
+-- The 40 threshold bytes as codes, and their order. Document 01, "Registers" and refusal 5.
 -- Assumes nothing.
-use Prim.Native.Nat.{ℕ, _+_}
+use Prim.Native.Nat.{ℕ, _+_, _*_}
 use mathlib.Core.Bool.{Bool, _&&_}
 use mathlib.Core.List.{List, [], _∷_}
 use lib.IntN.{ℤ, pos}
 use lib.ListN.{getD}
 use lib.Signed.{leZ}
-use Rattle.dom.specs.Codes.{codeOf, signedCode}
+use Rattle.dom.specs.Codes.{signedCode}
+
+-- the code of two bytes, high byte first
+abbrev pub codeOf : ℕ → ℕ → ℕ
+codeOf high low = high * 256 + low
 
 -- the code at an offset
 abbrev pub codeAt : List ℕ → ℕ → ℕ

@@ -1,12 +1,12 @@
--- `dom::thresholds::number_at` meets its contract: a code of either kind is read back whole.
+-- `thresholds::number_at` meets its contract: a code of either kind is read back whole.
 -- Assumes nothing.
 use borrow.Author.Needs.{needs}
 use mir.Facts.{toZ-ofZ}
 use mir.Syntax.{w16}
 use mir.Val.{SFits}
 use Rattle.dom.proofs.Signed.{widens, widened, wide}
-use Rattle.dom.proofs.thresholds.number_at.Statement.{statement}
-use Rattle.dom.proofs.thresholds.number_at.Tie as tie
+use Rattle.thresholds.proofs.number_at.Statement.{statement}
+use Rattle.thresholds.proofs.number_at.Tie as tie
 
 pub number-at-spec : {M : Type 1} → statement M
 number-at-spec =

@@ -1,8 +1,8 @@
--- `dom::thresholds::ordered` meets its contract, by what `row_ordered` says of each row.
+-- `thresholds::ordered` meets its contract, by what `row_ordered` says of each row.
 -- Assumes nothing.
 use borrow.Author.Needs.{needs}
-use Rattle.dom.proofs.thresholds.ordered.Statement.{statement}
-use Rattle.dom.proofs.thresholds.ordered.Tie as tie
+use Rattle.thresholds.proofs.ordered.Statement.{statement}
+use Rattle.thresholds.proofs.ordered.Tie as tie
 
 pub ordered-spec : {M : Type 1} → statement M
 ordered-spec =

@@ -1,0 +1,2 @@
+-- What the contracts of `thresholds` cite.
+pub mod Thresholds
