@@ -4,8 +4,8 @@ use Prim.Native.Nat.{ℕ}
 use mathlib.Core.List.{List, [], _∷_}
 use Rattle.action.specs.declared.Action.{Action}
 use Rattle.action.specs.declared.Action.the-variants as action
-use Rattle.jobs.specs.declared.Work.{Work}
-use Rattle.jobs.specs.declared.Work.the-variants as work
+use Rattle.work.specs.declared.Work.{Work}
+use Rattle.work.specs.declared.Work.the-variants as work
 use Rattle.answers.specs.declared.Refusal.{Refusal}
 use Rattle.answers.specs.declared.Refusal.the-variants.{Port, ImageLength, ThresholdsLength, Checksum, ThresholdOrder, Temperature, PoweredOff, PoweredOn}
 use Rattle.answers.specs.declared.Answer.{Answer}

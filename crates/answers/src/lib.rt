@@ -2,7 +2,7 @@
 ghost use mathlib.Core.Path.{_≡_};
 ghost use Rattle.answers.specs.Answers.{tickAnswer, frameAnswer};
 use action::Action;
-use jobs::Work;
+use work::Work;
 
 // Why a call is refused; `refusalNumber` in specs/ has document 01's number of each.
 pub enum Refusal {

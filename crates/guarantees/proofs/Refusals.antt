@@ -17,7 +17,8 @@ use Rattle.action.specs.Action.{when, writeTo, requestAction, actionOf, registe
 use Rattle.action.specs.declared.Action.{Action}
 use Rattle.action.specs.declared.Action.the-variants as action
 use Rattle.nvr.specs.Image.{checksumRight}
-use Rattle.jobs.specs.Job.{isBusy, workOf}
+use Rattle.jobs.specs.Job.{isBusy}
+use Rattle.work.specs.Work.{workOf}
 use Rattle.store.specs.Bytes.{movedByte}
 use Rattle.jobs.specs.declared.Job.{Job}
 use Rattle.dom.specs.Codes.{acceptable}

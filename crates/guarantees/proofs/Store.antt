@@ -17,7 +17,7 @@ use Rattle.nvr.specs.Command.{keptBits, commandOf}
 use Rattle.nvr.specs.declared.command.Command.{Command}
 use Rattle.nvr.specs.declared.command.Command.the-variants as command
 use Rattle.jobs.specs.Job as job
-use Rattle.jobs.specs.Job.{workOf, afterWork}
+use Rattle.work.specs.Work.{workOf, afterWork}
 use Rattle.jobs.specs.declared.Job.{Job as ModuleJob}
 use Rattle.store.specs.declared.Cut.{Cut}
 use Rattle.store.specs.declared.Cut.the-variants.{Clean, Torn}

@@ -25,7 +25,8 @@ use Rattle.nvr.specs.Image.{regionOf}
 use Rattle.nvr.specs.declared.command.Command.{Command}
 use Rattle.nvr.specs.declared.command.Command.the-variants as command
 use Rattle.jobs.specs.Job as job
-use Rattle.jobs.specs.Job.{wordOf, isBusy, workOf}
+use Rattle.jobs.specs.Job.{wordOf, isBusy}
+use Rattle.work.specs.Work.{workOf}
 use Rattle.store.specs.Bytes.{zeros}
 use Rattle.jobs.specs.declared.Job.{Job as ModuleJob}
 use Rattle.store.specs.declared.Cut.{Cut}

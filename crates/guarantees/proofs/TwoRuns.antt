@@ -10,10 +10,10 @@ use lib.Dec.{eqb, ltb, lit<, lit≤}
 use lib.ListN.{length, getD, take}
 use lib.Seq.{take-take, getD-take}
 use Rattle.nvr.specs.Image.{sum, checksumRight}
-use Rattle.jobs.specs.Job.{workOf}
+use Rattle.work.specs.Work.{workOf}
 use Rattle.store.specs.Bytes.{tornStore}
-use Rattle.jobs.specs.declared.Work.{Work}
-use Rattle.jobs.specs.declared.Work.the-variants as work
+use Rattle.work.specs.declared.Work.{Work}
+use Rattle.work.specs.declared.Work.the-variants as work
 use Rattle.store.specs.declared.Cut.the-variants.{Clean}
 use Rattle.thresholds.specs.Thresholds.{thresholdsOf, ordered}
 use Rattle.creation.specs.Creation.{fresh, refused, judgedBy, make}

@@ -8,9 +8,10 @@ use mathlib.Core.Path.{_≡_, refl, ap}
 use Rattle.action.specs.Action.{actionOf}
 use Rattle.action.specs.declared.Action.{Action}
 use Rattle.action.specs.declared.Action.the-variants as action
-use Rattle.jobs.specs.Job.{isBusy, workOf}
-use Rattle.jobs.specs.declared.Work.{Work}
-use Rattle.jobs.specs.declared.Work.the-variants as work
+use Rattle.jobs.specs.Job.{isBusy}
+use Rattle.work.specs.Work.{workOf}
+use Rattle.work.specs.declared.Work.{Work}
+use Rattle.work.specs.declared.Work.the-variants as work
 use Rattle.dom.specs.Codes.{acceptable}
 use Rattle.calls.specs.Calls.{said, step}
 use Rattle.xenpak.specs.Frame.{frame, moduleAfter}

@@ -1,9 +1,9 @@
 -- Register 8000, and the job that a command starts there. Document 01, "Registers" and "Load, burn, cut".
 -- Assumes nothing.
-use Prim.Native.Nat.{ℕ, _+_, _*_}
+use Prim.Native.Nat.{ℕ, _*_}
 use mathlib.Core.Bool.{Bool, cond, not}
 use lib.Bits.{bitOr}
-use lib.Dec.{eqb, ltb}
+use lib.Dec.{eqb}
 use Rattle.registers.specs.declared.Register.{Register}
 use Rattle.registers.specs.declared.Register.the-variants as register
 use Rattle.action.specs.declared.Action.{Action}
@@ -12,8 +12,6 @@ use Rattle.nvr.specs.Command.{keptBits, commandOf}
 use Rattle.nvr.specs.declared.command.Command.{Command}
 use Rattle.nvr.specs.declared.command.Command.the-variants.{LoadAll, LoadByte, BurnCustomer, BurnByte, Failed}
 use Rattle.jobs.specs.declared.Job.{Job}
-use Rattle.jobs.specs.declared.Work.{Work}
-use Rattle.jobs.specs.declared.Work.the-variants.{Refused, Nothing, Load, Burn}
 
 -- the kinds of job
 abbrev pub none : ℕ
@@ -77,25 +75,6 @@ wordOf j = bitOr (j .kept) (4 * statusOf j)
 -- the word at 0000: 2040, plus 8000 while the first load runs
 abbrev pub pmaWord : Job → ℕ
 pmaWord j = cond (eqb (j .kind) first) 0xa040 0x2040
-
--- what a tick is to do: the byte due; refusal 7 when the module is off
-abbrev pub workOf : Bool → Job → Work
-workOf powered j =
-    cond powered (cond (eqb (j .kind) none) Nothing (cond (eqb (j .kind) burn) (Burn (j .due)) (Load (j .due)))) Refused
-
--- after a byte the next offset is due; the last makes status done
-abbrev pub advanced : Job → Job
-advanced j =
-    cond (ltb (j .due) (j .last))
-    (record { kept = j .kept; kind = j .kind; due = j .due + 1; last = j .last; ended = j .ended })
-    (record { kept = j .kept; kind = none; due = j .due; last = j .last; ended = done })
-
--- after a tick
-abbrev pub afterWork : Job → Work → Job
-afterWork j Refused = j
-afterWork j Nothing = j
-afterWork j (Load due) = advanced j
-afterWork j (Burn due) = advanced j
 
 -- reading 8000 shows done or failed, then makes it idle
 abbrev pub afterRead : Job → Register → Job

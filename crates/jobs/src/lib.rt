@@ -1,6 +1,6 @@
 // Register 8000, and the job that a command starts there: a load or a burn, one byte a tick.
 ghost use mathlib.Core.Path.{_≡_};
-ghost use Rattle.jobs.specs.Job.{noJob, firstLoad, commandJob, isBusy, statusOf, wordOf, pmaWord, workOf, advanced, afterWork, afterRead, jobAfter};
+ghost use Rattle.jobs.specs.Job.{noJob, firstLoad, commandJob, isBusy, statusOf, wordOf, pmaWord, afterRead, jobAfter};
 use action::Action;
 use nvr::command::Command;
 use nvr::command::kept_bits;
@@ -32,15 +32,6 @@ pub struct Job {
     pub last: u8,
     // The status that the latest job left, 1 done or 3 failed; 0, idle, once 8000 was read.
     pub ended: u8,
-}
-
-// What a tick is to do.
-pub enum Work {
-    // Powered off: refusal 7.
-    Refused,
-    Nothing,
-    Load(u8),
-    Burn(u8),
 }
 
 impl Job {
@@ -139,48 +130,6 @@ impl Job {
         match kind {
             FIRST => 0xa040,
             _ => 0x2040,
-        }
-    }
-
-    // What a tick is to do.
-    pub fn work(self, powered: bool) -> Work
-        ensures { λ r. ⌜ r ≡ workOf powered self ⌝ }
-    {
-        if powered {
-            if self.kind == NONE {
-                return Work::Nothing;
-            }
-            if self.kind == BURN {
-                return Work::Burn(self.due);
-            }
-            return Work::Load(self.due);
-        }
-        Work::Refused
-    }
-
-    // After a byte: the next offset is due, or the job is done.
-    fn advanced(mut self) -> Job
-        ensures { λ r. ⌜ r ≡ advanced self ⌝ }
-    {
-        let due = self.due;
-        if due < self.last {
-            self.due = due + 1;
-            return self;
-        }
-        self.kind = NONE;
-        self.ended = 1;
-        self
-    }
-
-    // After a tick.
-    pub fn after_work(self, work: Work) -> Job
-        ensures { λ r. ⌜ r ≡ afterWork self work ⌝ }
-    {
-        match work {
-            Work::Refused => self,
-            Work::Nothing => self,
-            Work::Load(_) => self.advanced(),
-            Work::Burn(_) => self.advanced(),
         }
     }
 

@@ -8,7 +8,8 @@ use mathlib.Core.Bool.{Bool, true, false}
 use mathlib.Core.Path.{_≡_, refl, sym, ap, _∙_}
 use lib.Dec.{eqb, ltb}
 use borrow.Author.Tests.{ltb-true, ltb-false}
-use Rattle.jobs.specs.Job.{none, burn, isBusy, workOf, afterWork}
+use Rattle.jobs.specs.Job.{none, burn, isBusy}
+use Rattle.work.specs.Work.{workOf, afterWork}
 use Rattle.jobs.specs.declared.Job.{Job}
 use Rattle.xenpak.specs.Calls.{tick}
 use Rattle.settling.specs.Settling.{ticks, due, settled}

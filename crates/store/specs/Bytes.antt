@@ -6,8 +6,8 @@ use mathlib.Core.Path.{_≡_}
 use lib.ListN.{getD, set, replicate}
 use Rattle.action.specs.declared.Action.{Action}
 use Rattle.action.specs.declared.Action.the-variants as action
-use Rattle.jobs.specs.declared.Work.{Work}
-use Rattle.jobs.specs.declared.Work.the-variants.{Refused, Nothing, Load, Burn}
+use Rattle.work.specs.declared.Work.{Work}
+use Rattle.work.specs.declared.Work.the-variants.{Refused, Nothing, Load, Burn}
 use Rattle.store.specs.declared.Cut.{Cut}
 use Rattle.store.specs.declared.Cut.the-variants.{Clean, Torn}
 

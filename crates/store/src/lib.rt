@@ -3,7 +3,7 @@ ghost use mathlib.Core.Path.{_≡_};
 ghost use lib.ListN.{getD};
 ghost use Rattle.store.specs.Bytes.{Moved, tornStore, zeros, writtenCopy};
 use action::Action;
-use jobs::Work;
+use work::Work;
 
 // A power cut: clean, or torn with a byte (document 01: struck).
 pub enum Cut {
@@ -51,7 +51,7 @@ pub fn tear(store: &mut [u8; 256], work: Work, cut: Cut)
 }
 
 // The copy begins as 256 zeros.
-pub fn zero(copy: &mut [u8; 256])
+fn zero(copy: &mut [u8; 256])
     ensures { λ _. ⌜ now (copy .exit) ≡ zeros 256 ⌝ }
 {
     *copy = [0; 256];

@@ -3,8 +3,9 @@
 use Prim.Native.Nat.{ℕ}
 use mathlib.Core.Bool.{Bool, true, false, cond}
 use mathlib.Core.List.{List}
-use Rattle.jobs.specs.Job.{workOf, afterWork, firstLoad}
-use Rattle.jobs.specs.declared.Work.{Work}
+use Rattle.jobs.specs.Job.{firstLoad}
+use Rattle.work.specs.Work.{workOf, afterWork}
+use Rattle.work.specs.declared.Work.{Work}
 use Rattle.store.specs.Bytes.{movedByte, loadedCopy, burnedStore, tornStore, zeros}
 use Rattle.store.specs.declared.Cut.{Cut}
 use Rattle.bus.specs.Bus.{noBus}

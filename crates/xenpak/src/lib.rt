@@ -20,9 +20,10 @@ use store::Cut;
 use store::move_byte;
 use store::tear;
 use store::write_copy;
-use store::zero;
 use thresholds::thresholds_of;
 use values::register_value;
+use work::after_work;
+use work::work_of;
 
 #[repr(C)]
 pub struct Module {
@@ -79,17 +80,22 @@ impl Module {
 
     // What power-on and reset share: a first load starts, with all at zero but port, store, thresholds, power and these
     // alarms.
-    fn started(mut self, alarms: Alarms) -> Module
+    fn started(self, alarms: Alarms) -> Module
         ensures { λ r. ⌜ r ≡ started alarms self ⌝ }
     {
-        let mut copy = self.copy;
-        zero(&mut copy);
-        self.copy = copy;
-        self.job = Job::first_load();
-        self.bus = Bus::zero();
-        self.alarms = alarms;
-        self.monitor = Monitor::none();
-        self
+        let store = self.store;
+        let thresholds = self.thresholds;
+        Module {
+            store: store,
+            job: Job::first_load(),
+            copy: [0; 256],
+            powered: self.powered,
+            port: self.port,
+            thresholds: thresholds,
+            bus: Bus::zero(),
+            alarms: alarms,
+            monitor: Monitor::none(),
+        }
     }
 
     // Power-on: the first load starts, and the lines are zero. Refused with 8 when powered.
@@ -127,7 +133,7 @@ impl Module {
         let before = self;
         let job = self.job;
         let mut store = self.store;
-        tear(&mut store, job.work(true), cut);
+        tear(&mut store, work_of(job, true), cut);
         self.store = store;
         self.powered = false;
         before.taken(true, self)
@@ -139,8 +145,8 @@ impl Module {
     {
         let job = self.job;
         let powered = self.powered;
-        let work = job.work(powered);
-        let next_job = job.after_work(work);
+        let work = work_of(job, powered);
+        let next_job = after_work(job, work);
         self.job = next_job;
         let mut store = self.store;
         let mut copy = self.copy;

@@ -13,4 +13,4 @@ power-cut-spec =
     (λ c κs. search needs)
     (λ c κs. search needs)
     (λ c κs. search needs)
-    (λ c. rw (c .taken .ensures, c .before .tear .ensures, c .before .before .work .ensures)))
+    (λ c. rw (c .taken .ensures, c .before .tear .ensures, c .before .before .work-of .ensures)))

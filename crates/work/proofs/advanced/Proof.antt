@@ -1,10 +1,10 @@
--- `jobs::Job::advanced` meets its contract.
+-- `work::advanced` meets its contract.
 -- Assumes nothing.
 use borrow.Author.Tests.{lt-ltb}
 use borrow.Author.Tests.{le-ltb}
 use borrow.Author.Needs.{needs}
-use Rattle.jobs.proofs.Job.advanced.Statement.{statement}
-use Rattle.jobs.proofs.Job.advanced.Tie as tie
+use Rattle.work.proofs.advanced.Statement.{statement}
+use Rattle.work.proofs.advanced.Tie as tie
 
 pub advanced-spec : {M : Type 1} → statement M
 advanced-spec =

@@ -1,13 +1,13 @@
--- `jobs::Job::work` meets its contract.
+-- `work::work_of` meets its contract.
 -- Assumes nothing.
 use borrow.Author.Tests.{ne-eqb}
 use borrow.Author.Tests.{eq-eqb}
 use borrow.Author.Needs.{needs}
-use Rattle.jobs.proofs.Job.work.Statement.{statement}
-use Rattle.jobs.proofs.Job.work.Tie as tie
+use Rattle.work.proofs.work_of.Statement.{statement}
+use Rattle.work.proofs.work_of.Tie as tie
 
-pub work-spec : {M : Type 1} → statement M
-work-spec =
+pub work-of-spec : {M : Type 1} → statement M
+work-of-spec =
     tie.close
     (tie.spec
     (λ c. rw (eq-eqb _ _ (c .if2 .taken), c .before .before .if1 .taken))

@@ -1,8 +1,8 @@
--- `jobs::Job::after_work` meets its contract.
+-- `work::after_work` meets its contract.
 -- Assumes nothing.
 use borrow.Author.Needs.{needs}
-use Rattle.jobs.proofs.Job.after_work.Statement.{statement}
-use Rattle.jobs.proofs.Job.after_work.Tie as tie
+use Rattle.work.proofs.after_work.Statement.{statement}
+use Rattle.work.proofs.after_work.Tie as tie
 
 pub after-work-spec : {M : Type 1} → statement M
 after-work-spec =

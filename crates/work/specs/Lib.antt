@@ -1,0 +1,2 @@
+-- What the contracts of `work` cite.
+pub mod Work
