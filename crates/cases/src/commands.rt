@@ -34,31 +34,23 @@ const BURNS: [u64; 7] = [
 ];
 
 // A command after one that failed; one byte burned, another loaded back.
-const ONE_BYTE: [u64; 24] = [
+const ONE_BYTE: [u64; 16] = [
     LOADED,
     WRITE + 0x807e_01aa,
     WRITE + 0x807f_00bb,
-    WRITE + 0x8000_7622,
-    SHOW,
-    TICKS + 1,
-    SHOW,
-    WRITE + 0x8000_7722,
-    SHOW,
-    WRITE + 0x8000_0003,
-    SHOW,
-    TICKS + 1,
-    SHOW,
+    SHOW + WRITE + 0x8000_7622,
+    SHOW + TICKS + 1,
+    SHOW + WRITE + 0x8000_7722,
+    SHOW + WRITE + 0x8000_0003,
+    SHOW + TICKS + 1,
     STORED + 118,
     STORED + 119,
     STORED + 120,
-    WRITE + 0x8000_7802,
-    SHOW,
-    TICKS + 1,
-    SHOW,
+    SHOW + WRITE + 0x8000_7802,
+    SHOW + TICKS + 1,
     READ + 0x807e,
     READ + 0x807f,
-    TICKS + 1,
-    SHOW,
+    SHOW + TICKS + 1,
 ];
 
 pub fn cases() {

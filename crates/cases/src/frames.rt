@@ -3,20 +3,13 @@ use crate::play::play;
 use crate::steps::*;
 
 // Operation 10.
-const WALK: [u64; 33] = [
+const INCREMENTED: [u64; 19] = [
     // From 9003 to 9006, and from 9003 again: each read clears its own register.
     LOADED,
     LINES_UP + 0x0039_03d9,
     LINES_UP,
-    FRAME + 0x0286_9003,
-    READ_NEXT,
-    READ_NEXT,
-    READ_NEXT,
-    READ_NEXT,
-    FRAME + 0x0286_9003,
-    READ_NEXT,
-    READ_NEXT,
-    READ_NEXT,
+    WALK + 0x9003_0004,
+    WALK + 0x9003_0003,
     BAR,
     // 9005 alone, then the others.
     LINES_UP + 0x0039_03d9,
@@ -28,44 +21,29 @@ const WALK: [u64; 33] = [
     READ + 0x9005,
     BAR,
     // Over the customer area's end.
-    FRAME + 0x0286_80ac,
-    READ_NEXT,
-    READ_NEXT,
-    READ_NEXT,
+    WALK + 0x80ac_0003,
     BAR,
     // At FFFF the address stays.
-    FRAME + 0x0286_fffe,
-    READ_NEXT,
-    READ_NEXT,
-    READ_NEXT,
-    READS + 1,
-    SHOW,
+    WALK + 0xfffe_0003,
+    SHOW + READS + 1,
     COUNTER,
 ];
 
 // The count of data answers.
-const COUNT: [u64; 36] = [
+const COUNT: [u64; 27] = [
     // Another start, port or device, an address with turnaround 11, a write with 00; an address, a write.
     LOADED,
-    FRAME + 0x7284_0000,
-    SHOW,
-    FRAME + 0x3304_0000,
-    SHOW,
-    FRAME + 0x3288_0000,
-    SHOW,
-    FRAME + 0x0287_9002,
-    SHOW,
-    FRAME + 0x1284_0007,
-    SHOW,
-    FRAME + 0x0286_9002,
-    SHOW,
-    FRAME + 0x1286_0007,
-    SHOW,
+    SHOW + FRAME + 0x7284_0000,
+    SHOW + FRAME + 0x3304_0000,
+    SHOW + FRAME + 0x3288_0000,
+    SHOW + FRAME + 0x0287_9002,
+    SHOW + FRAME + 0x1284_0007,
+    SHOW + FRAME + 0x0286_9002,
+    SHOW + FRAME + 0x1286_0007,
     COUNTER,
     BAR,
     // A read with any bits 17:0, one of an unlisted register.
-    FRAME + 0x3287_ffff,
-    SHOW,
+    SHOW + FRAME + 0x3287_ffff,
     COUNTER,
     READ + 0x8006,
     COUNTER,
@@ -80,14 +58,13 @@ const COUNT: [u64; 36] = [
     BAR,
     // Refused when off; zero at power-on.
     CUT,
-    READS + 1,
-    SHOW,
+    SHOW + READS + 1,
     COUNTER,
     POWER_ON,
     COUNTER,
 ];
 
 pub fn cases() {
-    play(b"walk", &WALK);
+    play(b"walk", &INCREMENTED);
     play(b"count", &COUNT);
 }

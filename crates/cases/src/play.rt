@@ -1,11 +1,10 @@
 // How a line's steps are run and shown.
-use crate::bench::Bench;
-use crate::bench::READ_FRAME;
-use crate::bench::READ_INCREMENT_FRAME;
+ghost use Prim.Native.Nat.{_≤_};
 use crate::bench::fresh;
-use crate::bench::loaded;
-use crate::bench::shown_made;
+use crate::bench::module;
+use crate::print::answered;
 use crate::print::number;
+use crate::print::settled;
 use crate::print::text;
 use crate::print::word;
 use crate::steps::*;
@@ -16,7 +15,18 @@ use dom::signed_code;
 use reads::alarm_line;
 use reads::counter;
 use reads::stored;
+use settling::settle;
 use store::Cut;
+use xenpak::Module;
+
+// The frames of port 5, device 1: an address, a write, a read, a read that then adds one to the address.
+const ADDRESS_FRAME: u32 = 0x0286_0000;
+
+const WRITE_FRAME: u32 = 0x1286_0000;
+
+const READ_FRAME: u32 = 0x3284_0000;
+
+const READ_INCREMENT_FRAME: u32 = 0x2284_0000;
 
 // Faults, and levels in bits 2 to 0.
 fn lines(faults: u32, levels: u32) -> Call {
@@ -38,7 +48,7 @@ fn sample(temperature: u16, bias: u16, transmit: u16, receive: u16) -> Call {
     })
 }
 
-// The call of a step below WRITE.
+// The call of a step below MAKE.
 fn call_of(kind: u64, n: u32) -> Call {
     let code = (n % 0x1_0000) as u16;
     match kind {
@@ -53,60 +63,132 @@ fn call_of(kind: u64, n: u32) -> Call {
         TEMPERATURE => sample(code, 0x4e20, 0x5000, 0x5000),
         BIAS => sample(0x1900, code, 0x5000, 0x5000),
         TRANSMIT => sample(0x1900, 0x4e20, code, 0x5000),
-        _ => sample(0x1900, 0x4e20, 0x5000, code),
+        RECEIVE => sample(0x1900, 0x4e20, 0x5000, code),
+        TICKS => Call::Tick,
+        WRITE => Call::Frame(WRITE_FRAME + code as u32),
+        WALK => Call::Frame(READ_INCREMENT_FRAME),
+        _ => Call::Frame(READ_FRAME),
     }
 }
 
-// A step from WRITE to ORDER.
-fn done(b: Bench, kind: u64, n: u32) -> Bench {
-    let high = (n / 0x1_0000) as u16;
-    let low = (n % 0x1_0000) as u16;
+// How many times it is called.
+fn times(kind: u64, n: u32) -> u32 {
+    match kind {
+        TICKS => n,
+        READS => n,
+        WALK => n % 0x1_0000,
+        _ => 1,
+    }
+}
+
+// The address frame of a step from WRITE to WALK.
+fn address(kind: u64, n: u32) -> Call {
+    if kind == READ {
+        return Call::Frame(ADDRESS_FRAME + n % 0x1_0000);
+    }
+    Call::Frame(ADDRESS_FRAME + n / 0x1_0000)
+}
+
+// So many times the same call.
+fn repeated(m: Module, call: Call, n: u32, shown: bool) -> Module {
+    let mut next = m;
+    for _i in 0..n {
+        let outcome = call.on(next);
+        let answer = outcome.answer;
+        answered(answer, shown);
+        next = outcome.next;
+    }
+    next
+}
+
+// A step below MAKE.
+fn called(m: Module, kind: u64, n: u32, shown: bool) -> Module {
+    let addressed = repeated(m, address(kind, n), (kind >= WRITE) as u32, false);
+    repeated(
+        addressed,
+        call_of(kind, n),
+        times(kind, n),
+        shown | (kind > WRITE),
+    )
+}
+
+// A step from MAKE to ORDER.
+fn made(kind: u64, n: u32) -> Module {
     let port = (n / 0x100_0000) as u8;
-    let image = (n / 0x1000 % 0x1000) as usize;
-    let thresholds = (n % 0x1000) as usize;
+    let lengths = n % 0x100_0000;
     match kind {
-        WRITE => b.write(high, low),
-        TICKS => b.repeated(Call::Tick, n),
-        READS => b.repeated(Call::Frame(READ_FRAME), n),
-        LOADED => loaded(),
-        MAKE => shown_made(port, image, thresholds, 0xf7, 0, 0x4600),
-        MAKE_WRONG => shown_made(port, image, thresholds, 0xf8, 0, 0x4000),
-        CHECKSUM => shown_made(31, 256, 40, (n % 256) as u8, 0, 0x4600),
-        _ => shown_made(31, 256, 40, 0xf7, high as usize, low),
+        MAKE => module(port, lengths, 0xf7, 0x4600, true),
+        MAKE_WRONG => module(port, lengths, 0xf8, 0x4000, true),
+        CHECKSUM => module(31, 0x10_0028, (n % 256) as u8, 0x4600, true),
+        _ => module(31, 0x10_0028, 0xf7, n, true),
     }
 }
 
-// A step from SHOW to BAR.
-fn shown(b: Bench, kind: u64, n: u32) -> Bench {
-    let m = b.module;
+// A fresh module that is powered on, its first load done.
+fn loaded() -> Module {
+    let powered = repeated(fresh(), Call::PowerOn, 1, false);
+    repeated(powered, Call::Tick, 256, false)
+}
+
+fn settle_within(m: Module, budget: u32) -> Module {
+    let outcome = settle(m, budget);
+    let answer = outcome.answer;
+    settled(answer);
+    outcome.next
+}
+
+// 1 where the stored byte is not its offset.
+fn differs(m: Module, offset: u8) -> u32
+    ensures { λ r. ⌜ r ≤ 1 ⌝ }
+{
+    if stored(m, offset) == offset { 0 } else { 1 }
+}
+
+// How many stored bytes are not their offset.
+fn changed(m: Module) -> u32 {
+    let mut count = 0;
+    for offset in 0..256u32 {
+        count += differs(m, offset as u8);
+    }
+    count
+}
+
+// A step from ALARM to NOTHING.
+fn look(m: Module, kind: u64, n: u32) {
     match kind {
-        SHOW => return b.show(),
-        READ => return b.read((n % 0x1_0000) as u16),
-        READ_NEXT => return b.call(Call::Frame(READ_INCREMENT_FRAME)).show(),
-        SETTLE => return b.settle(n),
         ALARM => number(alarm_line(m) as u32),
         COUNTER => number(counter(m) as u32),
         STORED => word(stored(m, (n % 256) as u8) as u16),
-        _ => text(b" |"),
+        CHANGED => number(changed(m)),
+        WORD => word((n % 0x1_0000) as u16),
+        BAR => text(b" |"),
+        _ => {}
     }
-    b
 }
 
-fn step(b: Bench, row: u64) -> Bench {
-    let n = row % 0x1_0000_0000;
-    let kind = row - n;
-    if kind < WRITE {
-        return b.call(call_of(kind, n as u32));
+fn step(m: Module, row: u64) -> Module {
+    let plain = row % SHOW;
+    let n = plain % 0x1_0000_0000;
+    let kind = plain - n;
+    if kind < MAKE {
+        return called(m, kind, n as u32, row >= SHOW);
     }
-    if kind < SHOW {
-        return done(b, kind, n as u32);
+    if kind < LOADED {
+        return made(kind, n as u32);
     }
-    shown(b, kind, n as u32)
+    if kind == LOADED {
+        return loaded();
+    }
+    if kind == SETTLE {
+        return settle_within(m, n as u32);
+    }
+    look(m, kind, n as u32);
+    m
 }
 
-// Steps up to BAR, one after the other.
-pub fn run(b: Bench, steps: &[u64]) -> Bench {
-    let mut next = b;
+// Steps up to NOTHING, one after the other.
+pub fn run(m: Module, steps: &[u64]) -> Module {
+    let mut next = m;
     let mut i = 0;
     while i < steps.len() {
         next = step(next, steps[i]);
@@ -115,15 +197,10 @@ pub fn run(b: Bench, steps: &[u64]) -> Bench {
     next
 }
 
-const SHOW_FLAGS: [u64; 4] = [READ + 0xa070, READ + 0xa071, READ + 0xa074, READ + 0xa075];
-
-const SHOW_JOB: [u64; 4] = [READ + 0x8000, SETTLE + 1000, READ + 0x8000, READ + 0x8000];
-
-const SHOW_START: [u64; 12] = [
+const AFTER_RESET_STEPS: [u64; 11] = [
     BAR,
     COUNTER,
-    READS + 1,
-    SHOW,
+    SHOW + READS + 1,
     READ + 0x8000,
     READ + 0x9002,
     STORED + 119,
@@ -134,28 +211,32 @@ const SHOW_START: [u64; 12] = [
     READ + 0x8080,
 ];
 
-// Any step. FLAGS, COMMAND and AFTER_RESET are several.
-fn part(b: Bench, row: u64) -> Bench {
-    match row - row % 0x1_0000_0000 {
-        FLAGS => run(b, &SHOW_FLAGS),
-        COMMAND => {
-            let written = (row % 0x1_0000) as u16;
-            text(b" |");
-            word(written);
-            run(b.write(0x8000, written), &SHOW_JOB)
-        }
-        AFTER_RESET => run(b, &SHOW_START),
-        _ => step(b, row),
+// Any step. COMMAND and AFTER_RESET are several.
+fn part(m: Module, row: u64) -> Module {
+    let n = row % 0x1_0000_0000;
+    let command = [
+        BAR,
+        WORD + n,
+        WRITE + 0x8000_0000 + n,
+        READ + 0x8000,
+        SETTLE + 1000,
+        READ + 0x8000,
+        READ + 0x8000,
+    ];
+    match row - n {
+        COMMAND => run(m, &command),
+        AFTER_RESET => run(m, &AFTER_RESET_STEPS),
+        _ => step(m, row),
     }
 }
 
 // A line: its name, and what its steps show on a fresh module.
 pub fn play(name: &[u8], steps: &[u64]) {
     text(name);
-    let mut b = fresh();
+    let mut m = fresh();
     let mut i = 0;
     while i < steps.len() {
-        b = part(b, steps[i]);
+        m = part(m, steps[i]);
         i += 1;
     }
     text(b"\n");

@@ -38,6 +38,13 @@ fn refusal(why: Refusal) {
     number(n);
 }
 
+fn plain(answer: Answer) {
+    match answer {
+        Answer::Accepted => text(b" ok"),
+        Answer::Refused(why) => refusal(why),
+    }
+}
+
 // s silent, a address set, w written, d dropped, or the data.
 fn framed(answer: FrameAnswer) {
     match answer {
@@ -72,13 +79,20 @@ pub fn settled(answer: SettleAnswer) {
     }
 }
 
-pub fn answer_of(answer: CallAnswer) {
-    match answer {
-        CallAnswer::Plain(a) => match a {
-            Answer::Accepted => text(b" ok"),
-            Answer::Refused(why) => refusal(why),
-        },
-        CallAnswer::Frame(a) => framed(a),
-        CallAnswer::Tick(a) => ticked(a),
+// The answer to a making, if it is to be shown.
+pub fn made(answer: Answer, shown: bool) {
+    if shown {
+        plain(answer);
+    }
+}
+
+// The answer to a call, if it is to be shown.
+pub fn answered(answer: CallAnswer, shown: bool) {
+    if shown {
+        match answer {
+            CallAnswer::Plain(a) => plain(a),
+            CallAnswer::Frame(a) => framed(a),
+            CallAnswer::Tick(a) => ticked(a),
+        }
     }
 }

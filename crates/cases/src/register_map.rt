@@ -1,5 +1,4 @@
 // Each kind of register, written and read back.
-use crate::bench::Bench;
 use crate::bench::fresh;
 use crate::play::run;
 use crate::print::text;
@@ -53,48 +52,38 @@ const HIGH: [u16; 20] = [
     0xffff,
 ];
 
-// Each fault, each high flag, and the link alarm.
-const ALARMED: [u64; 5] = [
-    TEMPERATURE + 0x4601,
-    BIAS + 0x9c41,
-    TRANSMIT + 0xf001,
-    RECEIVE + 0xffff,
-    LINES_UP + 0x0039_03d9,
-];
-
-const IDLE: [u64; 1] = [LOADED];
-
-// In the first load, with 200 bytes loaded.
-const LOADING: [u64; 2] = [POWER_ON, TICKS + 200];
-
-// With a burn due.
-const BURNING: [u64; 2] = [LOADED, WRITE + 0x8000_0023];
-
-// What a write of 7FFF answers, and what is then read.
-fn cell(b: Bench, address: u16) {
-    b.write(address, 0x7fff).show().read(address);
+// After two steps, each fault, each high flag and the link alarm: what a write of 7FFF answers, and what is then read.
+fn cell(first: u64, second: u64, address: u16) {
+    let steps = [
+        first,
+        second,
+        TEMPERATURE + 0x4601,
+        BIAS + 0x9c41,
+        TRANSMIT + 0xf001,
+        RECEIVE + 0xffff,
+        LINES_UP + 0x0039_03d9,
+        SHOW + WRITE + (address as u64) * 0x1_0000 + 0x7fff,
+        READ + (address as u64),
+    ];
+    run(fresh(), &steps);
 }
 
 // Each address from the same state.
-fn cells(b: Bench, addresses: &[u16]) {
+fn row(name: &[u8], first: u64, second: u64, addresses: &[u16]) {
+    text(name);
     let mut i = 0;
     while i < addresses.len() {
-        cell(b, addresses[i]);
+        cell(first, second, addresses[i]);
         i += 1;
     }
     text(b"\n");
 }
 
-fn row(name: &[u8], state: &[u64], addresses: &[u16]) {
-    let alarmed = ALARMED;
-    text(name);
-    cells(run(run(fresh(), state), &alarmed), addresses);
-}
-
+// Idle; in the first load, with 200 bytes loaded; with a burn due.
 fn rows(addresses: &[u16]) {
-    row(b"idle    ", &IDLE, addresses);
-    row(b"loading ", &LOADING, addresses);
-    row(b"burning ", &BURNING, addresses);
+    row(b"idle    ", LOADED, NOTHING, addresses);
+    row(b"loading ", POWER_ON, TICKS + 200, addresses);
+    row(b"burning ", LOADED, WRITE + 0x8000_0023, addresses);
 }
 
 pub fn cases() {

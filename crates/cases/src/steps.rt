@@ -27,53 +27,57 @@ pub const TRANSMIT: u64 = 0x0b_0000_0000;
 
 pub const RECEIVE: u64 = 0x0c_0000_0000;
 
-// A write of a value (four digits) to an address (four digits).
+// So many ticks; so many reads where the address register stands.
+pub const TICKS: u64 = 0x0d_0000_0000;
+
+pub const READS: u64 = 0x0e_0000_0000;
+
+// An address frame first. A write of a value (four digits) to an address (four digits); a read of an address, shown; so
+// many reads (four digits) that go on by one from an address (four digits), each shown.
 pub const WRITE: u64 = 0x10_0000_0000;
 
-// So many ticks; so many reads where the address register stands.
-pub const TICKS: u64 = 0x11_0000_0000;
+pub const READ: u64 = 0x11_0000_0000;
 
-pub const READS: u64 = 0x12_0000_0000;
+pub const WALK: u64 = 0x12_0000_0000;
+
+// Making, whose answer is shown: with a port (two digits) and the lengths of image and thresholds (three digits each); the same with checksum
+// and order wrong; with this checksum; with another threshold code (four digits) at a byte (four digits).
+pub const MAKE: u64 = 0x20_0000_0000;
+
+pub const MAKE_WRONG: u64 = 0x21_0000_0000;
+
+pub const CHECKSUM: u64 = 0x22_0000_0000;
+
+pub const ORDER: u64 = 0x23_0000_0000;
 
 // A fresh module that is powered on, its first load done.
-pub const LOADED: u64 = 0x13_0000_0000;
+pub const LOADED: u64 = 0x24_0000_0000;
 
-// Making, whose answer is shown: with a port (two digits) and the lengths of image and thresholds (three digits each);
-// the same with checksum and order wrong; with this checksum; with another threshold code (four digits) at a byte.
-pub const MAKE: u64 = 0x14_0000_0000;
+// Settling with this budget; the ticks that it stands for are shown.
+pub const SETTLE: u64 = 0x30_0000_0000;
 
-pub const MAKE_WRONG: u64 = 0x15_0000_0000;
+// Shown: the alarm line; the counter; the byte stored at an offset; how many stored bytes are not their offset; the
+// number itself; a bar between parts of a line; nothing.
+pub const ALARM: u64 = 0x40_0000_0000;
 
-pub const CHECKSUM: u64 = 0x16_0000_0000;
+pub const COUNTER: u64 = 0x41_0000_0000;
 
-pub const ORDER: u64 = 0x17_0000_0000;
+pub const STORED: u64 = 0x42_0000_0000;
 
-// Shown: the answer to the latest call; the data at an address; the data where the address register stands, which then
-// goes on by one; the ticks that a settling with this budget stands for; the alarm line; the counter; the byte stored at
-// an offset.
-pub const SHOW: u64 = 0x20_0000_0000;
+pub const CHANGED: u64 = 0x43_0000_0000;
 
-pub const READ: u64 = 0x21_0000_0000;
+pub const WORD: u64 = 0x44_0000_0000;
 
-pub const READ_NEXT: u64 = 0x22_0000_0000;
+pub const BAR: u64 = 0x45_0000_0000;
 
-pub const SETTLE: u64 = 0x23_0000_0000;
+pub const NOTHING: u64 = 0x46_0000_0000;
 
-pub const ALARM: u64 = 0x24_0000_0000;
-
-pub const COUNTER: u64 = 0x25_0000_0000;
-
-pub const STORED: u64 = 0x26_0000_0000;
-
-// A bar between parts of a line.
-pub const BAR: u64 = 0x27_0000_0000;
-
-// Several shown: the flags, A070, A071, A074, A075.
-pub const FLAGS: u64 = 0x30_0000_0000;
-
-// A word, which is written to 8000: 8000 at once, the ticks due, and 8000 twice after them.
-pub const COMMAND: u64 = 0x31_0000_0000;
+// Several steps. A word, which is written to 8000: 8000 at once, the ticks due, and 8000 twice after them.
+pub const COMMAND: u64 = 0x51_0000_0000;
 
 // The counter, the data where the address register stands, 8000, 9002, the store at 119 to 121, the ticks due, and the
 // copy at 119 and 121.
-pub const AFTER_RESET: u64 = 0x32_0000_0000;
+pub const AFTER_RESET: u64 = 0x52_0000_0000;
+
+// Added to a call: its answer is shown.
+pub const SHOW: u64 = 0x100_0000_0000;

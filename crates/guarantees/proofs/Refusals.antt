@@ -75,15 +75,15 @@ make-refusals port image thresholds =
 abbrev frameNumber : Action → ℕ → ℕ
 frameNumber a value = saidFrame (frameAnswer a value) .refusal
 
-taken : (b : Bool) (a : Action) (value : ℕ) → frameNumber a value ≡ 0 → frameNumber (when b a) value ≡ 0
-taken true a value e = e
-taken false a value e = refl
+or-dropped : (b : Bool) (a : Action) (value : ℕ) → frameNumber a value ≡ 0 → frameNumber (when b a) value ≡ 0
+or-dropped true a value e = e
+or-dropped false a value e = refl
 
 writes : (r : Register) (busy : Bool) (v value : ℕ) → frameNumber (writeTo r busy v) value ≡ 0
-writes register.PmaControl busy v value = taken (bit 15 v) action.Reset value refl
-writes register.NvrControl busy v value = taken (not busy) (action.Command v) value refl
+writes register.PmaControl busy v value = or-dropped (bit 15 v) action.Reset value refl
+writes register.NvrControl busy v value = or-dropped (not busy) (action.Command v) value refl
 writes (register.Copy offset) busy v value = refl
-writes (register.Customer offset) busy v value = taken (not busy) _ value refl
+writes (register.Customer offset) busy v value = or-dropped (not busy) _ value refl
 writes (register.Control i) busy v value = refl
 writes (register.Status i) busy v value = refl
 writes (register.Threshold k) busy v value = refl

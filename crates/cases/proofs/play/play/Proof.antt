@@ -7,10 +7,10 @@ use Rattle.cases.proofs.play.play.Statement.{statement}
 use Rattle.cases.proofs.play.play.Tie as tie
 
 abbrev Inv-loop : tie.InvT-loop
-Inv-loop name steps b₀ i₀ t5 b i = i ≤ length steps
+Inv-loop name steps m₀ i₀ t5 m i = i ≤ length steps
 
 abbrev μ-loop : tie.MeasureT-loop
-μ-loop name steps b₀ i₀ t5 b i = length steps - i
+μ-loop name steps m₀ i₀ t5 m i = length steps - i
 
 pub play-spec : {M : Type 1} → statement M
 play-spec =

@@ -6,10 +6,10 @@ use Rattle.cases.proofs.struck.burning.Statement.{statement}
 use Rattle.cases.proofs.struck.burning.Tie as tie
 
 abbrev Inv-loop : tie.InvT-loop
-Inv-loop b₀ i₀ b i = i ≤ 48
+Inv-loop steps₀ i₀ steps i = i ≤ 48
 
 abbrev μ-loop : tie.MeasureT-loop
-μ-loop b₀ i₀ b i = 48 - i
+μ-loop steps₀ i₀ steps i = 48 - i
 
 pub burning-spec : {M : Type 1} → statement M
 burning-spec =
@@ -17,13 +17,16 @@ burning-spec =
     (tie.spec
     Inv-loop
     μ-loop
-    (λ c κs. search needs)
     (λ c. search needs)
     (λ c. search needs)
     (λ c. search needs)
-    (λ c κs. search needs)
     (λ c. search needs)
     (λ c. search needs)
     (λ c. search needs)
-    (λ c κs. search needs)
+    (λ c. search needs)
+    (λ c. search needs)
+    (λ c. search needs)
+    (λ c. search needs)
+    (λ c. search needs)
+    (λ c. search needs)
     (λ c. search needs))

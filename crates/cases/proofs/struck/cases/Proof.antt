@@ -6,10 +6,10 @@ use Rattle.cases.proofs.struck.cases.Statement.{statement}
 use Rattle.cases.proofs.struck.cases.Tie as tie
 
 abbrev Inv-loop : tie.InvT-loop
-Inv-loop b count₀ sum₀ ticks₀ t7 t8 count sum ticks = (ticks ≤ 48) × (count ≤ ticks)
+Inv-loop ticks₀ t3 ticks = ticks ≤ 48
 
 abbrev μ-loop : tie.MeasureT-loop
-μ-loop b count₀ sum₀ ticks₀ t7 t8 count sum ticks = 48 - ticks
+μ-loop ticks₀ t3 ticks = 48 - ticks
 
 pub cases-spec : {M : Type 1} → statement M
 cases-spec =
@@ -17,10 +17,6 @@ cases-spec =
     (tie.spec
     Inv-loop
     μ-loop
-    (λ c κs. search needs)
-    (λ c. search needs)
-    (λ c κs. search needs)
-    (λ c. search needs)
     (λ c. search needs)
     (λ c κs. search needs)
     (λ c. search needs)
@@ -28,18 +24,6 @@ cases-spec =
     (λ c. search needs)
     (λ c. search needs)
     (λ c. search needs)
-    (λ c. search needs)
-    (λ c κs. search needs)
-    (λ c κs. search needs)
-    (λ c κs. search needs)
-    (λ c κs. search needs)
-    (λ c κs. search needs)
-    (λ c κs. search needs)
-    (λ c κs. search needs)
-    (λ c κs. search needs)
-    (λ c κs. search needs)
-    (λ c κs. search needs)
-    (λ c κs. search needs)
     (λ c. search needs)
     (λ c κs. search needs)
     (λ c. search needs))

@@ -1,15 +1,15 @@
--- `cases::bench::Bench::repeated` is safe and ends: the loop makes `n` calls.
+-- `cases::play::repeated` is safe and ends: the loop makes `n` calls.
 -- Assumes nothing.
 use Prim.Native.Nat.{_≤_, _-_}
 use borrow.Author.Needs.{needs}
-use Rattle.cases.proofs.bench.Bench.repeated.Statement.{statement}
-use Rattle.cases.proofs.bench.Bench.repeated.Tie as tie
+use Rattle.cases.proofs.play.repeated.Statement.{statement}
+use Rattle.cases.proofs.play.repeated.Tie as tie
 
 abbrev Inv-loop : tie.InvT-loop
-Inv-loop call n b₀ i₀ b i = i ≤ n
+Inv-loop call n shown next₀ -i₀ next -i = -i ≤ n
 
 abbrev μ-loop : tie.MeasureT-loop
-μ-loop call n b₀ i₀ b i = n - i
+μ-loop call n shown next₀ -i₀ next -i = n - -i
 
 pub repeated-spec : {M : Type 1} → statement M
 repeated-spec =
@@ -18,6 +18,7 @@ repeated-spec =
     Inv-loop
     μ-loop
     (λ c. search needs)
+    (λ c κs. search needs)
     (λ c κs. search needs)
     (λ c. search needs)
     (λ c. search needs)

@@ -1,23 +1,24 @@
--- `cases::register_map::cells` is safe and ends: the loop goes through the addresses.
+-- `cases::register_map::row` is safe and ends: the loop goes through the addresses.
 -- Assumes nothing.
 use Prim.Native.Nat.{_≤_, _-_}
 use borrow.Author.Needs.{needs}
 use lib.ListN.{length}
-use Rattle.cases.proofs.register_map.cells.Statement.{statement}
-use Rattle.cases.proofs.register_map.cells.Tie as tie
+use Rattle.cases.proofs.register_map.row.Statement.{statement}
+use Rattle.cases.proofs.register_map.row.Tie as tie
 
 abbrev Inv-loop : tie.InvT-loop
-Inv-loop b addresses i₀ t4 i = i ≤ length addresses
+Inv-loop name first second addresses i₀ t6 i = i ≤ length addresses
 
 abbrev μ-loop : tie.MeasureT-loop
-μ-loop b addresses i₀ t4 i = length addresses - i
+μ-loop name first second addresses i₀ t6 i = length addresses - i
 
-pub cells-spec : {M : Type 1} → statement M
-cells-spec =
+pub row-spec : {M : Type 1} → statement M
+row-spec =
     tie.close
     (tie.spec
     Inv-loop
     μ-loop
+    (λ c κs. search needs)
     (λ c. search needs)
     (λ c. search needs)
     (λ c. search needs)
