@@ -27,25 +27,14 @@ fn thresholds(at: usize, code: u16) -> [u8; 41] {
     bytes
 }
 
-// The first n bytes.
-fn first(bytes: &[u8], n: usize) -> &[u8] {
-    if n <= bytes.len() {
-        &bytes[0..n]
-    } else {
-        bytes
-    }
-}
-
 // A module made with these lengths of image and thresholds (three digits each), this checksum, and this threshold code
 // (four digits) at a byte (four digits).
 pub fn module(port: u8, lengths: u32, checksum: u8, place: u32, shown: bool) -> Module {
     let whole = image(checksum);
     let table = thresholds((place / 0x1_0000) as usize, (place % 0x1_0000) as u16);
-    let outcome = make(
-        port,
-        first(&whole, (lengths / 0x1000) as usize),
-        first(&table, (lengths % 0x1000) as usize),
-    );
+    let image_length = (lengths / 0x1000 % 258) as usize;
+    let table_length = (lengths % 0x1000 % 42) as usize;
+    let outcome = make(port, &whole[0..image_length], &table[0..table_length]);
     let answer = outcome.answer;
     made(answer, shown);
     outcome.next

@@ -1,9 +1,9 @@
 // Commands at 8000.
-use crate::play::play;
 use crate::steps::*;
 
-// Commands 00 and 01, and one byte's burn outside 119 to 166.
-const FAILED: [u64; 7] = [
+pub const STEPS: [u64; 41] = [
+    // Commands 00 and 01, and one byte's burn outside 119 to 166.
+    LINE,
     LOADED,
     COMMAND + 0x0000,
     COMMAND + 0x7721,
@@ -11,9 +11,7 @@ const FAILED: [u64; 7] = [
     COMMAND + 0x0022,
     COMMAND + 0x7622,
     COMMAND + 0xa722,
-];
-
-const LOADS: [u64; 7] = [
+    LINE,
     LOADED,
     COMMAND + 0x0002,
     COMMAND + 0x7602,
@@ -21,9 +19,7 @@ const LOADS: [u64; 7] = [
     COMMAND + 0x0003,
     COMMAND + 0x5a03,
     COMMAND + 0xffdf,
-];
-
-const BURNS: [u64; 7] = [
+    LINE,
     LOADED,
     COMMAND + 0x7722,
     COMMAND + 0xa622,
@@ -31,10 +27,8 @@ const BURNS: [u64; 7] = [
     COMMAND + 0x0023,
     COMMAND + 0x5a23,
     COMMAND + 0xffff,
-];
-
-// A command after one that failed; one byte burned, another loaded back.
-const ONE_BYTE: [u64; 16] = [
+    // A command after one that failed; one byte burned, another loaded back.
+    LINE,
     LOADED,
     WRITE + 0x807e_01aa,
     WRITE + 0x807f_00bb,
@@ -52,10 +46,3 @@ const ONE_BYTE: [u64; 16] = [
     READ + 0x807f,
     SHOW + TICKS + 1,
 ];
-
-pub fn cases() {
-    play(b"failed", &FAILED);
-    play(b"load", &LOADS);
-    play(b"burn", &BURNS);
-    play(b"byte", &ONE_BYTE);
-}

@@ -1,9 +1,9 @@
 // The address register, and the count of data answers.
-use crate::play::play;
 use crate::steps::*;
 
-// Operation 10.
-const INCREMENTED: [u64; 19] = [
+pub const STEPS: [u64; 48] = [
+    // Operation 10.
+    LINE,
     // From 9003 to 9006, and from 9003 again: each read clears its own register.
     LOADED,
     LINES_UP + 0x0039_03d9,
@@ -27,10 +27,8 @@ const INCREMENTED: [u64; 19] = [
     WALK + 0xfffe_0003,
     SHOW + READS + 1,
     COUNTER,
-];
-
-// The count of data answers.
-const COUNT: [u64; 27] = [
+    // The count of data answers.
+    LINE,
     // Another start, port or device, an address with turnaround 11, a write with 00; an address, a write.
     LOADED,
     SHOW + FRAME + 0x7284_0000,
@@ -63,8 +61,3 @@ const COUNT: [u64; 27] = [
     POWER_ON,
     COUNTER,
 ];
-
-pub fn cases() {
-    play(b"walk", &INCREMENTED);
-    play(b"count", &COUNT);
-}

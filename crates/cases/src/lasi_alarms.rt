@@ -1,9 +1,9 @@
 // Lines, the link, and LASI.
-use crate::play::play;
 use crate::steps::*;
 
-// Receive and transmit faults.
-const FAULTS: [u64; 18] = [
+pub const STEPS: [u64; 173] = [
+    // Receive and transmit faults.
+    LINE,
     // Bits in the masks; live ones stand again after a read.
     LOADED,
     LINES + 0xffff_ffff,
@@ -25,10 +25,8 @@ const FAULTS: [u64; 18] = [
     READ + 0x9004,
     READ + 0x9003,
     READ + 0x9003,
-];
-
-// The link alarm.
-const LINK: [u64; 25] = [
+    // The link alarm.
+    LINE,
     // The link is not up before all three levels are.
     LOADED,
     LEVELS,
@@ -57,11 +55,9 @@ const LINK: [u64; 25] = [
     LEVELS + 6,
     READ + 0x9005,
     READ + 0x9005,
-];
-
-// 9003, 9004, 9005, A070, and 9005 with the link up again. A reset keeps the latest lines, not what was latched, nor
-// flags; power-on keeps nothing.
-const STARTS: [u64; 36] = [
+    // 9003, 9004, 9005, A070, and 9005 with the link up again. A reset keeps the latest lines, not what was latched, nor
+    // flags; power-on keeps nothing.
+    LINE,
     // Reset by the pin.
     LOADED,
     LINES + 0x0038_03d8,
@@ -101,10 +97,8 @@ const STARTS: [u64; 36] = [
     READ + 0xa070,
     LINES_UP,
     READ + 0x9005,
-];
-
-// The alarm line while all alarms stand, as they are enabled.
-const ENABLES: [u64; 39] = [
+    // The alarm line while all alarms stand, as they are enabled.
+    LINE,
     // 9002: none, the link, transmit, receive.
     LOADED,
     LINES_UP + 0x0039_03d9,
@@ -148,10 +142,8 @@ const ENABLES: [u64; 39] = [
     // Off.
     CUT,
     ALARM,
-];
-
-// The alarm line while all is enabled, as each alarm comes and is read.
-const SOURCES: [u64; 50] = [
+    // The alarm line while all is enabled, as each alarm comes and is read.
+    LINE,
     // None.
     LOADED,
     WRITE + 0x9000_ffff,
@@ -210,11 +202,3 @@ const SOURCES: [u64; 50] = [
     READ + 0xa074,
     READ + 0xa075,
 ];
-
-pub fn cases() {
-    play(b"faults", &FAULTS);
-    play(b"link", &LINK);
-    play(b"starts", &STARTS);
-    play(b"lasi", &ENABLES);
-    play(b"lasi", &SOURCES);
-}

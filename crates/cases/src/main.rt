@@ -12,13 +12,25 @@ mod register_map;
 mod steps;
 mod struck;
 
+use crate::play::play;
+
+// Each title names the lines below it.
 fn main() {
-    refusals::cases();
+    play(b"refused: making; order; blank; off; on", &refusals::STEPS);
     register_map::cases();
-    monitoring::cases();
-    commands::cases();
-    nvr_jobs::cases();
+    play(
+        b"monitoring: held; held over; temperature; bias; transmit; receive; latched",
+        &monitoring::STEPS,
+    );
+    play(b"commands: failed; load; burn; byte", &commands::STEPS);
+    play(
+        b"jobs: reset in first load, in load, in burn; cuts; settle; first",
+        &nvr_jobs::STEPS,
+    );
     struck::cases();
-    frames::cases();
-    lasi_alarms::cases();
+    play(b"frames: walk; count", &frames::STEPS);
+    play(
+        b"alarms: faults; link; starts; lasi as enabled, lasi as each alarm comes",
+        &lasi_alarms::STEPS,
+    );
 }

@@ -1,9 +1,9 @@
 // Samples: the held low byte, and the flags at each threshold.
-use crate::play::play;
 use crate::steps::*;
 
-// The low byte that a read of the high byte holds.
-const HELD: [u64; 34] = [
+pub const STEPS: [u64; 174] = [
+    // The low byte that a read of the high byte holds.
+    LINE,
     // Over a sample and other reads; given once.
     LOADED,
     TEMPERATURE + 0x1122,
@@ -42,10 +42,8 @@ const HELD: [u64; 34] = [
     RECEIVE + 0x7788,
     READ + 0xa069,
     READ + 0xa069,
-];
-
-// The held byte over what is no read.
-const HELD_OVER: [u64; 37] = [
+    // The held byte over what is no read.
+    LINE,
     // Over a refused sample and a tick.
     LOADED,
     TEMPERATURE + 0x1122,
@@ -88,10 +86,8 @@ const HELD_OVER: [u64; 37] = [
     SHOW + FRAME + 0x2284_0000,
     SHOW + FRAME + 0x2284_0000,
     SHOW + FRAME + 0x2284_0000,
-];
-
-// A070, A071, A074, A075 at each threshold and one beyond: high alarm, low alarm, high warning, low warning.
-const TEMPERATURES: [u64; 20] = [
+    // A070, A071, A074, A075 at each threshold and one beyond: high alarm, low alarm, high warning, low warning.
+    LINE,
     LOADED,
     TEMPERATURE + 0x4600,
     WALK + 0xa070_0006,
@@ -112,9 +108,7 @@ const TEMPERATURES: [u64; 20] = [
     WALK + 0xa070_0006,
     TEMPERATURE + 0xfaff,
     WALK + 0xa070_0006,
-];
-
-const BIASES: [u64; 20] = [
+    LINE,
     LOADED,
     BIAS + 0x9c40,
     WALK + 0xa070_0006,
@@ -135,9 +129,7 @@ const BIASES: [u64; 20] = [
     WALK + 0xa070_0006,
     BIAS + 0x1387,
     WALK + 0xa070_0006,
-];
-
-const TRANSMITS: [u64; 20] = [
+    LINE,
     LOADED,
     TRANSMIT + 0xf000,
     WALK + 0xa070_0006,
@@ -158,9 +150,7 @@ const TRANSMITS: [u64; 20] = [
     WALK + 0xa070_0006,
     TRANSMIT + 0x01ff,
     WALK + 0xa070_0006,
-];
-
-const RECEIVES: [u64; 20] = [
+    LINE,
     LOADED,
     RECEIVE + 0xfffe,
     WALK + 0xa070_0006,
@@ -181,10 +171,8 @@ const RECEIVES: [u64; 20] = [
     WALK + 0xa070_0006,
     RECEIVE + 0x000f,
     WALK + 0xa070_0006,
-];
-
-// Flags after the sample that raised them.
-const LATCHED: [u64; 16] = [
+    // Flags after the sample that raised them.
+    LINE,
     // Latched until each register is read.
     LOADED,
     TEMPERATURE + 0x4601,
@@ -204,13 +192,3 @@ const LATCHED: [u64; 16] = [
     RECEIVE + 0x5000,
     WALK + 0xa070_0006,
 ];
-
-pub fn cases() {
-    play(b"held", &HELD);
-    play(b"held over", &HELD_OVER);
-    play(b"temperature", &TEMPERATURES);
-    play(b"bias", &BIASES);
-    play(b"transmit", &TRANSMITS);
-    play(b"receive", &RECEIVES);
-    play(b"latched", &LATCHED);
-}

@@ -173,8 +173,12 @@ fn step(m: Module, row: u64) -> Module {
     if kind < MAKE {
         return called(m, kind, n as u32, row >= SHOW);
     }
-    if kind < LOADED {
+    if kind < LINE {
         return made(kind, n as u32);
+    }
+    if kind == LINE {
+        text(b"\n");
+        return fresh();
     }
     if kind == LOADED {
         return loaded();
@@ -230,9 +234,9 @@ fn part(m: Module, row: u64) -> Module {
     }
 }
 
-// A line: its name, and what its steps show on a fresh module.
-pub fn play(name: &[u8], steps: &[u64]) {
-    text(name);
+// A title, and what the steps show.
+pub fn play(title: &[u8], steps: &[u64]) {
+    text(title);
     let mut m = fresh();
     let mut i = 0;
     while i < steps.len() {

@@ -1,9 +1,9 @@
 // What is refused, with its number, and that a refused call leaves the record as it was.
-use crate::play::play;
 use crate::steps::*;
 
-// Making, numbers 1 to 5: the lowest comes first.
-const MAKINGS: [u64; 12] = [
+pub const STEPS: [u64; 103] = [
+    // Making, numbers 1 to 5: the lowest comes first.
+    LINE,
     // Port 32 with no image, port 255, port 31.
     MAKE + 0x20_000_000,
     MAKE + 0xff_100_028,
@@ -21,10 +21,8 @@ const MAKINGS: [u64; 12] = [
     // A high alarm below the high warning; other bytes at A008, where no order is asked.
     ORDER + 0x00_4000,
     ORDER + 0x08_0000,
-];
-
-// For each quantity, low alarm, low warning and high warning equal to the threshold above, and one more.
-const ORDERS: [u64; 27] = [
+    // For each quantity, low alarm, low warning and high warning equal to the threshold above, and one more.
+    LINE,
     ORDER + 0x02_fb00,
     ORDER + 0x02_fb01,
     ORDER + 0x06_4100,
@@ -52,10 +50,8 @@ const ORDERS: [u64; 27] = [
     ORDER + 0x26_9001,
     ORDER + 0x24_fffe,
     ORDER + 0x24_ffff,
-];
-
-// A refused making hands out the blank module: its bytes zero, off, port 0.
-const BLANK: [u64; 12] = [
+    // A refused making hands out the blank module: its bytes zero, off, port 0.
+    LINE,
     ORDER + 0x00_4000,
     STORED + 1,
     STORED + 118,
@@ -69,10 +65,8 @@ const BLANK: [u64; 12] = [
     SHOW + FRAME + 0x3004_0000,
     SHOW + FRAME + 0x0006_a000,
     SHOW + FRAME + 0x3004_0000,
-];
-
-// Off, each call but power-on is 7. Power went with a burn due at 121 and the alarm line asserted.
-const OFF: [u64; 29] = [
+    // Off, each call but power-on is 7. Power went with a burn due at 121 and the alarm line asserted.
+    LINE,
     LOADED,
     WRITE + 0x807e_00aa,
     WRITE + 0x9002_0001,
@@ -104,10 +98,8 @@ const OFF: [u64; 29] = [
     SHOW + POWER_ON,
     COUNTER,
     READ + 0x8000,
-];
-
-// Powered, power-on is 8, and a temperature below D800 or above 7D00 is 6.
-const ON: [u64; 18] = [
+    // Powered, power-on is 8, and a temperature below D800 or above 7D00 is 6.
+    LINE,
     LOADED,
     SHOW + POWER_ON,
     READ + 0x8000,
@@ -127,11 +119,3 @@ const ON: [u64; 18] = [
     STORED + 119,
     ALARM,
 ];
-
-pub fn cases() {
-    play(b"making", &MAKINGS);
-    play(b"order", &ORDERS);
-    play(b"blank", &BLANK);
-    play(b"off", &OFF);
-    play(b"on", &ON);
-}

@@ -50,8 +50,11 @@ pub const CHECKSUM: u64 = 0x22_0000_0000;
 
 pub const ORDER: u64 = 0x23_0000_0000;
 
+// A new line, with a fresh module: port 5, powered off.
+pub const LINE: u64 = 0x24_0000_0000;
+
 // A fresh module that is powered on, its first load done.
-pub const LOADED: u64 = 0x24_0000_0000;
+pub const LOADED: u64 = 0x25_0000_0000;
 
 // Settling with this budget; the ticks that it stands for are shown.
 pub const SETTLE: u64 = 0x30_0000_0000;

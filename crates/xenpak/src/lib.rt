@@ -120,8 +120,7 @@ impl Module {
         ensures { λ r. ⌜ r ≡ resetPin self ⌝ }
     {
         let alarms = self.alarms;
-        let cleared = alarms.restarted();
-        let reset = self.started(cleared);
+        let reset = self.started(alarms.restarted());
         self.taken(true, reset)
     }
 
@@ -145,8 +144,7 @@ impl Module {
         let job = self.job;
         let powered = self.powered;
         let work = work_of(job, powered);
-        let next_job = after_work(job, work);
-        self.job = next_job;
+        self.job = after_work(job, work);
         let mut store = self.store;
         let mut copy = self.copy;
         let byte = move_byte(&mut store, &mut copy, work);
@@ -165,8 +163,7 @@ impl Module {
     {
         let before = self;
         let alarms = self.alarms;
-        let fed = alarms.lines(given);
-        self.alarms = fed;
+        self.alarms = alarms.lines(given);
         before.taken(true, self)
     }
 
@@ -176,14 +173,11 @@ impl Module {
     {
         let before = self;
         let thresholds = self.thresholds;
-        let table = thresholds_of(&thresholds);
-        let flags = flags_of(table, given);
+        let flags = flags_of(thresholds_of(&thresholds), given);
         let alarms = self.alarms;
         let monitor = self.monitor;
-        let next_alarms = alarms.sampled(flags);
-        let next_monitor = monitor.sampled(given);
-        self.alarms = next_alarms;
-        self.monitor = next_monitor;
+        self.alarms = alarms.sampled(flags);
+        self.monitor = monitor.sampled(given);
         before.taken(acceptable(given.temperature), self)
     }
 
@@ -195,14 +189,10 @@ impl Module {
         let bus = self.bus;
         let alarms = self.alarms;
         let monitor = self.monitor;
-        let next_job = job.after(action);
-        let next_bus = bus.after(action);
-        let next_alarms = alarms.after(action);
-        let next_monitor = monitor.after(action);
-        self.job = next_job;
-        self.bus = next_bus;
-        self.alarms = next_alarms;
-        self.monitor = next_monitor;
+        self.job = job.after(action);
+        self.bus = bus.after(action);
+        self.alarms = alarms.after(action);
+        self.monitor = monitor.after(action);
         let mut copy = self.copy;
         write_copy(&mut copy, action);
         self.copy = copy;
