@@ -1,6 +1,6 @@
 // Alarm and flag latches, the link and the controls: what frames, starts, lines and samples do to them.
 ghost use mathlib.Core.Path.{_≡_};
-ghost use Rattle.alarms.specs.Alarms.{differ, noAlarms, statusCleared, flagsCleared, afterRead, restarted, controlled, alarmsAfter, afterLines, afterSample};
+ghost use Rattle.alarms.specs.Alarms.{differ, statusCleared, flagsCleared, afterRead, restarted, controlled, alarmsAfter, afterLines, afterSample};
 use action::Action;
 use controls::Controls;
 use flags::Flags;
@@ -40,21 +40,17 @@ fn differ(a: bool, b: bool) -> bool
 }
 
 impl Alarms {
-    pub fn none() -> Alarms
-        ensures { λ r. ⌜ r ≡ noAlarms ⌝ }
-    {
-        Alarms {
-            controls: Controls::zero(),
-            rxfaults: Latch::none(),
-            txfaults: Latch::none(),
-            txalarm: Latch::none(),
-            rxalarm: Latch::none(),
-            txwarning: Latch::none(),
-            rxwarning: Latch::none(),
-            link: false,
-            changed: false,
-        }
-    }
+    pub const NONE: Alarms = Alarms {
+        controls: Controls::ZERO,
+        rxfaults: Latch::NONE,
+        txfaults: Latch::NONE,
+        txalarm: Latch::NONE,
+        rxalarm: Latch::NONE,
+        txwarning: Latch::NONE,
+        rxwarning: Latch::NONE,
+        link: false,
+        changed: false,
+    };
 
     // A read of 9003 or 9004 clears its faults, one of 9005 the link alarm.
     fn status_cleared(mut self, i: u8) -> Alarms
@@ -118,13 +114,13 @@ impl Alarms {
         ensures { λ r. ⌜ r ≡ restarted self ⌝ }
     {
         Alarms {
-            controls: Controls::zero(),
+            controls: Controls::ZERO,
             rxfaults: self.rxfaults.cleared(),
             txfaults: self.txfaults.cleared(),
-            txalarm: Latch::none(),
-            rxalarm: Latch::none(),
-            txwarning: Latch::none(),
-            rxwarning: Latch::none(),
+            txalarm: Latch::NONE,
+            rxalarm: Latch::NONE,
+            txwarning: Latch::NONE,
+            rxwarning: Latch::NONE,
             link: self.link,
             changed: false,
         }
@@ -134,9 +130,7 @@ impl Alarms {
     fn controlled(mut self, i: u8, word: u16) -> Alarms
         ensures { λ r. ⌜ r ≡ controlled self i word ⌝ }
     {
-        let controls = self.controls;
-        let written = controls.written(i, word);
-        self.controls = written;
+        self.controls = self.controls.written(i, word);
         self
     }
 
@@ -156,13 +150,10 @@ impl Alarms {
     pub fn lines(mut self, lines: Lines) -> Alarms
         ensures { λ r. ⌜ r ≡ afterLines self lines ⌝ }
     {
-        let rx = self.rxfaults.fed(lines.receive & 0x0039);
-        let tx = self.txfaults.fed(lines.transmit & 0x03d9);
         let up = lines.signal & lines.block & lines.lanes;
-        let moved = differ(self.link, up);
-        self.changed = self.changed | moved;
-        self.rxfaults = rx;
-        self.txfaults = tx;
+        self.rxfaults = self.rxfaults.fed(lines.receive & 0x0039);
+        self.txfaults = self.txfaults.fed(lines.transmit & 0x03d9);
+        self.changed = self.changed | differ(self.link, up);
         self.link = up;
         self
     }
@@ -171,14 +162,10 @@ impl Alarms {
     pub fn sampled(mut self, flags: Flags) -> Alarms
         ensures { λ r. ⌜ r ≡ afterSample self flags ⌝ }
     {
-        let txalarm = self.txalarm.fed(flags.txalarm);
-        let rxalarm = self.rxalarm.fed(flags.rxalarm);
-        let txwarning = self.txwarning.fed(flags.txwarning);
-        let rxwarning = self.rxwarning.fed(flags.rxwarning);
-        self.txalarm = txalarm;
-        self.rxalarm = rxalarm;
-        self.txwarning = txwarning;
-        self.rxwarning = rxwarning;
+        self.txalarm = self.txalarm.fed(flags.txalarm);
+        self.rxalarm = self.rxalarm.fed(flags.rxalarm);
+        self.txwarning = self.txwarning.fed(flags.txwarning);
+        self.rxwarning = self.rxwarning.fed(flags.rxwarning);
         self
     }
 }

@@ -1,6 +1,6 @@
 // The address register, and the count of data answers.
 ghost use mathlib.Core.Path.{_≡_};
-ghost use Rattle.bus.specs.Bus.{noBus, oneMore, nextAddress, busRead, busAfter};
+ghost use Rattle.bus.specs.Bus.{oneMore, nextAddress, busRead, busAfter};
 use action::Action;
 
 #[repr(C)]
@@ -27,14 +27,10 @@ fn next_address(address: u16, increment: bool) -> u16
 }
 
 impl Bus {
-    pub fn zero() -> Bus
-        ensures { λ r. ⌜ r ≡ noBus ⌝ }
-    {
-        Bus {
-            address: 0,
-            counter: 0,
-        }
-    }
+    pub const ZERO: Bus = Bus {
+        address: 0,
+        counter: 0,
+    };
 
     // After a data answer.
     fn read(self, increment: bool) -> Bus
@@ -55,7 +51,7 @@ impl Bus {
                 self.address = address;
                 self
             }
-            Action::Reset => Bus::zero(),
+            Action::Reset => Bus::ZERO,
             Action::Read(_, increment) => self.read(increment),
             _ => self,
         }

@@ -1,6 +1,6 @@
 // The alarm controls: which alarms are enabled.
 ghost use mathlib.Core.Path.{_≡_};
-ghost use Rattle.controls.specs.Controls.{noControls, controlWritten, controlAt};
+ghost use Rattle.controls.specs.Controls.{controlWritten, controlAt};
 
 // 9000 RX_ALARM, 9001 TX_ALARM, 9002 LASI, 9006 TX_FLAG, 9007 RX_FLAG control.
 #[repr(C)]
@@ -13,17 +13,13 @@ pub struct Controls {
 }
 
 impl Controls {
-    pub fn zero() -> Controls
-        ensures { λ r. ⌜ r ≡ noControls ⌝ }
-    {
-        Controls {
-            rxalarm: 0,
-            txalarm: 0,
-            lasi: 0,
-            txflag: 0,
-            rxflag: 0,
-        }
-    }
+    pub const ZERO: Controls = Controls {
+        rxalarm: 0,
+        txalarm: 0,
+        lasi: 0,
+        txflag: 0,
+        rxflag: 0,
+    };
 
     // Control i takes a word under its mask.
     pub fn written(mut self, i: u8, word: u16) -> Controls

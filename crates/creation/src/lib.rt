@@ -48,14 +48,14 @@ fn fresh(port: u8, store: [u8; 256], thresholds: [u8; 40]) -> Module
 {
     Module {
         store: store,
-        job: Job::none(),
+        job: Job::IDLE,
         copy: [0; 256],
         powered: false,
         port: port,
         thresholds: thresholds,
-        bus: Bus::zero(),
-        alarms: Alarms::none(),
-        monitor: Monitor::none(),
+        bus: Bus::ZERO,
+        alarms: Alarms::NONE,
+        monitor: Monitor::NONE,
     }
 }
 

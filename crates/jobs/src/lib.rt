@@ -1,6 +1,6 @@
 // Register 8000, and the job that a command starts there: a load or a burn, one byte a tick.
 ghost use mathlib.Core.Path.{_≡_};
-ghost use Rattle.jobs.specs.Job.{noJob, firstLoad, commandJob, isBusy, statusOf, wordOf, pmaWord, afterRead, jobAfter};
+ghost use Rattle.jobs.specs.Job.{commandJob, isBusy, statusOf, wordOf, pmaWord, afterRead, jobAfter};
 use action::Action;
 use nvr::command::Command;
 use nvr::command::kept_bits;
@@ -35,29 +35,21 @@ pub struct Job {
 }
 
 impl Job {
-    pub fn none() -> Job
-        ensures { λ r. ⌜ r ≡ noJob ⌝ }
-    {
-        Job {
-            kept: 0,
-            kind: NONE,
-            due: 0,
-            last: 0,
-            ended: 0,
-        }
-    }
+    pub const IDLE: Job = Job {
+        kept: 0,
+        kind: NONE,
+        due: 0,
+        last: 0,
+        ended: 0,
+    };
 
-    pub fn first_load() -> Job
-        ensures { λ r. ⌜ r ≡ firstLoad ⌝ }
-    {
-        Job {
-            kept: 0x0003,
-            kind: FIRST,
-            due: 0,
-            last: LAST,
-            ended: 0,
-        }
-    }
+    pub const FIRST_LOAD: Job = Job {
+        kept: 0x0003,
+        kind: FIRST,
+        due: 0,
+        last: LAST,
+        ended: 0,
+    };
 
     // The job of a command, with the bits that 8000 keeps.
     fn by(command: Command, kept: u16) -> Job
@@ -151,7 +143,7 @@ impl Job {
         ensures { λ r. ⌜ r ≡ jobAfter self action ⌝ }
     {
         match action {
-            Action::Reset => Job::first_load(),
+            Action::Reset => Job::FIRST_LOAD,
             Action::Command(word) => Job::by(Command::of(word), kept_bits(word)),
             Action::Read(register, _) => self.after_read(register),
             _ => self,

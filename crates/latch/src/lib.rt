@@ -1,6 +1,6 @@
 // A latch: what six alarm registers are made of.
 ghost use mathlib.Core.Path.{_≡_};
-ghost use Rattle.latch.specs.Latch.{noLatch, fed, cleared, latched};
+ghost use Rattle.latch.specs.Latch.{fed, cleared, latched};
 
 // The latest word, and every bit that a word had since the latch was last cleared.
 #[repr(C)]
@@ -10,11 +10,7 @@ pub struct Latch {
 }
 
 impl Latch {
-    pub fn none() -> Latch
-        ensures { λ r. ⌜ r ≡ noLatch ⌝ }
-    {
-        Latch { live: 0, since: 0 }
-    }
+    pub const NONE: Latch = Latch { live: 0, since: 0 };
 
     // A word comes in.
     pub fn fed(self, word: u16) -> Latch

@@ -1,6 +1,6 @@
 // Digital optical monitoring (DOM): the last sample, and the low byte that a read of a high byte holds.
 ghost use mathlib.Core.Path.{_≡_};
-ghost use Rattle.monitor.specs.Monitor.{bitsOf, noMonitor, codeIn, holds, byteOf, valueOf, holding, forgetting, afterSampleRead, afterRead, monitorAfter, sampledMonitor};
+ghost use Rattle.monitor.specs.Monitor.{bitsOf, codeIn, holds, byteOf, valueOf, holding, forgetting, afterSampleRead, afterRead, monitorAfter, sampledMonitor};
 use action::Action;
 use dom::Sample;
 use registers::Register;
@@ -37,21 +37,17 @@ fn byte_of(code: u16, low: bool, held: bool, byte: u8) -> u16
 }
 
 impl Monitor {
-    pub fn none() -> Monitor
-        ensures { λ r. ⌜ r ≡ noMonitor ⌝ }
-    {
-        Monitor {
-            sample: Sample {
-                temperature: 0,
-                bias: 0,
-                transmit: 0,
-                receive: 0,
-            },
-            held: false,
-            quantity: 0,
-            byte: 0,
-        }
-    }
+    pub const NONE: Monitor = Monitor {
+        sample: Sample {
+            temperature: 0,
+            bias: 0,
+            transmit: 0,
+            receive: 0,
+        },
+        held: false,
+        quantity: 0,
+        byte: 0,
+    };
 
     // The sample's code of a quantity: temperature, bias, transmit power, receive power.
     fn code(self, quantity: u8) -> u16
@@ -126,7 +122,7 @@ impl Monitor {
         ensures { λ r. ⌜ r ≡ monitorAfter self action ⌝ }
     {
         match action {
-            Action::Reset => Monitor::none(),
+            Action::Reset => Monitor::NONE,
             Action::Read(register, _) => self.after_read(register),
             _ => self,
         }

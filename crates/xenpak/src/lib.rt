@@ -86,14 +86,14 @@ impl Module {
         let thresholds = self.thresholds;
         Module {
             store: store,
-            job: Job::first_load(),
+            job: Job::FIRST_LOAD,
             copy: [0; 256],
             powered: self.powered,
             port: self.port,
             thresholds: thresholds,
-            bus: Bus::zero(),
+            bus: Bus::ZERO,
             alarms: alarms,
-            monitor: Monitor::none(),
+            monitor: Monitor::NONE,
         }
     }
 
@@ -108,7 +108,7 @@ impl Module {
             };
         }
         self.powered = true;
-        let next = self.started(Alarms::none());
+        let next = self.started(Alarms::NONE);
         Outcome {
             next: next,
             answer: Answer::Accepted,

@@ -11,4 +11,4 @@ lines-spec =
     (λ c κs. search needs)
     (λ c κs. search needs)
     (λ c κs. search needs)
-    (λ c. rw (c .before .differ .ensures, c .before .before .before .before .fed2 .ensures, c .before .before .before .before .before .before .fed .ensures)))
+    (λ c. rw (c .before .differ .ensures, c .before .before .fed2 .ensures, c .before .before .before .before .fed .ensures)))

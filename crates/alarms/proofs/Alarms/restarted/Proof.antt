@@ -10,9 +10,4 @@ restarted-spec =
     (tie.spec
     (λ c κs. search needs)
     (λ c κs. search needs)
-    (λ c κs. search needs)
-    (λ c κs. search needs)
-    (λ c κs. search needs)
-    (λ c κs. search needs)
-    (λ c κs. search needs)
-    (λ c. rw (c .none4 .ensures, c .before .none3 .ensures, c .before .before .none2 .ensures, c .before .before .before .none .ensures, c .before .before .before .before .cleared2 .ensures, c .before .before .before .before .before .cleared .ensures, c .before .before .before .before .before .before .zero .ensures)))
+    (λ c. rw (c .cleared2 .ensures, c .before .cleared .ensures)))

@@ -34,10 +34,9 @@ after-spec =
     (tie.spec
     (λ c. search needs)
     (λ c. search needs)
-    (λ c κs. search needs)
     (λ c. search needs)
     (λ c κs. search needs)
     (λ c. rw (c .before .action .given .1))
-    (λ c. rw (c .zero .ensures, c .before .enum-told .given .1))
+    (λ c. rw (c .enum-told .given .1))
     (λ c. rw (c .read .ensures, c .before .before .action2 .given .1))
     (λ c. others (c .before .args .self) (c .before .args .action) (c .match .keys4)))

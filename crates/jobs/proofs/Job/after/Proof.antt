@@ -33,14 +33,13 @@ after-spec =
     tie.close
     (tie.spec
     (λ c. search needs)
-    (λ c κs. search needs)
     (λ c. search needs)
     (λ c κs. search needs)
     (λ c κs. search needs)
     (λ c κs. search needs)
     (λ c. search needs)
     (λ c κs. search needs)
-    (λ c. search needs)
+    (λ c. rw (c .enum-told .given .1))
     (λ c. rw (c .by .ensures, c .before .kept-bits .ensures, c .before .before .of .ensures, c .before .before .before .before .action .given .1))
     (λ c. rw (c .after-read .ensures, c .before .before .action2 .given .1))
     (λ c. others (c .before .args .self) (c .before .args .action) (c .match .keys4)))

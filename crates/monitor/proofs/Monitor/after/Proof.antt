@@ -33,9 +33,8 @@ after-spec =
     tie.close
     (tie.spec
     (λ c. search needs)
-    (λ c κs. search needs)
     (λ c. search needs)
     (λ c κs. search needs)
-    (λ c. rw (c .none .ensures, c .before .enum-told .given .1))
+    (λ c. rw (c .enum-told .given .1))
     (λ c. rw (c .after-read .ensures, c .before .before .action .given .1))
     (λ c. others (c .before .args .self) (c .before .args .action) (c .match .keys3)))

@@ -12,5 +12,4 @@ power-on-spec =
     (tie.spec
     (λ c. rw (c .if1 .taken))
     (λ c κs. search needs)
-    (λ c κs. search needs)
-    (λ c. rw (c .started .ensures, c .before .none .ensures, c .before .before .if1 .left)))
+    (λ c. rw (c .started .ensures, c .before .if1 .left)))
