@@ -4,8 +4,6 @@ use Prim.Native.Nat.{ℕ}
 use mathlib.Core.List.{List, [], _∷_}
 use Rattle.action.specs.declared.Action.{Action}
 use Rattle.action.specs.declared.Action.the-variants as action
-use Rattle.work.specs.declared.Work.{Work}
-use Rattle.work.specs.declared.Work.the-variants as work
 use Rattle.answers.specs.declared.Refusal.{Refusal}
 use Rattle.answers.specs.declared.Refusal.the-variants.{Port, ImageLength, ThresholdsLength, Checksum, ThresholdOrder, Temperature, PoweredOff, PoweredOn}
 use Rattle.answers.specs.declared.Answer.{Answer}
@@ -64,13 +62,6 @@ saidTick (tick.Refused why) = refusedWith why
 abbrev pub saidSettle : SettleAnswer → Said
 saidSettle (settle.Ticks count) = says 0 (count ∷ [])
 saidSettle (settle.Refused why) = refusedWith why
-
--- ---- which answer a call gives
-abbrev pub tickAnswer : Work → ℕ → TickAnswer
-tickAnswer work.Refused byte = tick.Refused PoweredOff
-tickAnswer work.Nothing byte = tick.Nothing
-tickAnswer (work.Load offset) byte = tick.Loaded offset byte
-tickAnswer (work.Burn offset) byte = tick.Burned offset byte
 
 -- the answer of a frame that reads this value
 abbrev pub frameAnswer : Action → ℕ → FrameAnswer

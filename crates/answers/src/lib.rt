@@ -1,8 +1,7 @@
 // What each call answers.
 ghost use mathlib.Core.Path.{_≡_};
-ghost use Rattle.answers.specs.Answers.{tickAnswer, frameAnswer};
+ghost use Rattle.answers.specs.Answers.{frameAnswer};
 use action::Action;
-use work::Work;
 
 // Why a call is refused; `refusalNumber` in specs/ has document 01's number of each.
 pub enum Refusal {
@@ -57,20 +56,6 @@ impl FrameAnswer {
             Action::Dropped => FrameAnswer::Dropped,
             Action::Read(_, _) => FrameAnswer::Data(value),
             _ => FrameAnswer::Written,
-        }
-    }
-}
-
-impl TickAnswer {
-    // The answer of a tick that moves this byte.
-    pub fn of(work: Work, byte: u8) -> TickAnswer
-        ensures { λ r. ⌜ r ≡ tickAnswer work byte ⌝ }
-    {
-        match work {
-            Work::Refused => TickAnswer::Refused(Refusal::PoweredOff),
-            Work::Nothing => TickAnswer::Nothing,
-            Work::Load(offset) => TickAnswer::Loaded(offset, byte),
-            Work::Burn(offset) => TickAnswer::Burned(offset, byte),
         }
     }
 }

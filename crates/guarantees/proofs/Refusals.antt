@@ -3,6 +3,7 @@
 use Prim.Native.Nat.{ℕ}
 use mathlib.Core.Bool.{Bool, true, false, cond, not}
 use mathlib.Core.Logic.{_≢_}
+use mathlib.Core.List.{List}
 use mathlib.Core.Path.{_≡_, refl, _∙_}
 use lib.Dec.{eqb, ltb}
 use lib.ListN.{length}
@@ -19,11 +20,11 @@ use Rattle.action.specs.declared.Action.the-variants as action
 use Rattle.nvr.specs.Image.{checksumRight}
 use Rattle.jobs.specs.Job.{isBusy}
 use Rattle.work.specs.Work.{workOf}
-use Rattle.store.specs.Bytes.{movedByte}
+use Rattle.store.specs.Bytes.{tickAnswer}
 use Rattle.jobs.specs.declared.Job.{Job}
 use Rattle.dom.specs.Codes.{acceptable}
 use Rattle.thresholds.specs.Thresholds.{thresholdsOf, ordered}
-use Rattle.answers.specs.Answers.{saidPlain, saidFrame, saidTick, frameAnswer, tickAnswer}
+use Rattle.answers.specs.Answers.{saidPlain, saidFrame, saidTick, frameAnswer}
 use Rattle.calls.specs.Calls.{step}
 use Rattle.xenpak.specs.Frame.{frame, valueAt}
 use Rattle.xenpak.specs.Calls as calls
@@ -98,11 +99,11 @@ requests (request.Write v) address busy value = writes (registerAt address) busy
 requests request.Read address busy value = refl
 requests request.ReadIncrement address busy value = refl
 
-works : (j : Job) (byte : ℕ) → saidTick (tickAnswer (workOf true j) byte) .refusal ≡ 0
-works j byte = go (eqb (j .kind) 0) (eqb (j .kind) 2) refl refl
+works : (s c : List ℕ) (j : Job) → saidTick (tickAnswer s c (workOf true j)) .refusal ≡ 0
+works s c j = go (eqb (j .kind) 0) (eqb (j .kind) 2) refl refl
   where
-    go : (b c : Bool) → eqb (j .kind) 0 ≡ b → eqb (j .kind) 2 ≡ c → saidTick (tickAnswer (workOf true j) byte) .refusal ≡ 0
-    go true c p q = rw p
+    go : (b d : Bool) → eqb (j .kind) 0 ≡ b → eqb (j .kind) 2 ≡ d → saidTick (tickAnswer s c (workOf true j)) .refusal ≡ 0
+    go true d p q = rw p
     go false true p q = rw (p, q)
     go false false p q = rw (p, q)
 
@@ -135,8 +136,8 @@ refusals m (call.Frame word) = go (m .powered)
     go false = refl
 refusals m call.Tick = go (m .powered)
   where
-    go : (b : Bool) → saidTick (tickAnswer (workOf b (m .job)) (movedByte (m .store) (m .copy) (workOf b (m .job)))) .refusal ≡ refusalBy b call.Tick
-    go true = works (m .job) _
+    go : (b : Bool) → saidTick (tickAnswer (m .store) (m .copy) (workOf b (m .job))) .refusal ≡ refusalBy b call.Tick
+    go true = works (m .store) (m .copy) (m .job)
     go false = refl
 refusals m (call.Lines l) = powers m _ (m .powered) true ∙ on-off (m .powered) (call.Lines l) refl refl
 refusals m (call.Sample s) = powers m _ (m .powered) (acceptable (s .temperature)) ∙ on-off (m .powered) (call.Sample s) refl refl

@@ -15,7 +15,8 @@ use Rattle.work.specs.declared.Work.the-variants as work
 use Rattle.dom.specs.Codes.{acceptable}
 use Rattle.calls.specs.Calls.{said, step}
 use Rattle.xenpak.specs.Frame.{frame, moduleAfter}
-use Rattle.answers.specs.Answers.{frameAnswer, tickAnswer}
+use Rattle.answers.specs.Answers.{frameAnswer}
+use Rattle.store.specs.Bytes.{tickAnswer}
 use Rattle.xenpak.specs.Calls as calls
 use Rattle.xenpak.specs.Calls.{accepted, refused, taken, tickBy}
 use Rattle.answers.specs.declared.Refusal.the-variants.{PoweredOn}
@@ -58,11 +59,11 @@ by-frame m (action.Customer offset byte) value e = not-so e
 by-frame m (action.Control i word) value e = not-so e
 by-frame m (action.Read r increment) value e = not-so e
 
-by-tick : (m : Module) (w : Work) (byte : ℕ) → leaves (Tick (tickAnswer w byte)) ≡ true → tickBy m w .next ≡ m
-by-tick m work.Refused byte e = refl
-by-tick m work.Nothing byte e = not-so e
-by-tick m (work.Load offset) byte e = not-so e
-by-tick m (work.Burn offset) byte e = not-so e
+by-tick : (m : Module) (w : Work) → leaves (Tick (tickAnswer (m .store) (m .copy) w)) ≡ true → tickBy m w .next ≡ m
+by-tick m work.Refused e = refl
+by-tick m work.Nothing e = not-so e
+by-tick m (work.Load offset) e = not-so e
+by-tick m (work.Burn offset) e = not-so e
 
 by-power : (m n : Module) (b right : Bool) → leaves (Plain (taken b right m n .answer)) ≡ true → taken b right m n .next ≡ m
 by-power m n true true e = not-so e
@@ -80,7 +81,7 @@ unchanged m call.PowerOn e = go (m .powered) _ e
 unchanged m (call.Cut cut) e = by-power m _ (m .powered) true e
 unchanged m call.ResetPin e = by-power m _ (m .powered) true e
 unchanged m (call.Frame word) e = by-frame m (actionOf (m .powered) (m .port) (m .bus .address) (isBusy (m .job)) word) _ e
-unchanged m call.Tick e = by-tick m (workOf (m .powered) (m .job)) _ e
+unchanged m call.Tick e = by-tick m (workOf (m .powered) (m .job)) e
 unchanged m (call.Lines l) e = by-power m _ (m .powered) true e
 unchanged m (call.Sample s) e = by-power m _ (m .powered) (acceptable (s .temperature)) e
 

@@ -8,15 +8,18 @@ use Rattle.action.specs.declared.Action.{Action}
 use Rattle.action.specs.declared.Action.the-variants as action
 use Rattle.work.specs.declared.Work.{Work}
 use Rattle.work.specs.declared.Work.the-variants.{Refused, Nothing, Load, Burn}
+use Rattle.answers.specs.declared.Refusal.the-variants.{PoweredOff}
+use Rattle.answers.specs.declared.TickAnswer.{TickAnswer}
+use Rattle.answers.specs.declared.TickAnswer.the-variants as tick
 use Rattle.store.specs.declared.Cut.{Cut}
 use Rattle.store.specs.declared.Cut.the-variants.{Clean, Torn}
 
--- the byte that a tick moves, 0 where it moves none
-abbrev pub movedByte : List ℕ → List ℕ → Work → ℕ
-movedByte store copy Refused = 0
-movedByte store copy Nothing = 0
-movedByte store copy (Load due) = getD store due 0
-movedByte store copy (Burn due) = getD copy due 0
+-- what a tick answers: the offset and the byte that it moves
+abbrev pub tickAnswer : List ℕ → List ℕ → Work → TickAnswer
+tickAnswer store copy Refused = tick.Refused PoweredOff
+tickAnswer store copy Nothing = tick.Nothing
+tickAnswer store copy (Load due) = tick.Loaded due (getD store due 0)
+tickAnswer store copy (Burn due) = tick.Burned due (getD copy due 0)
 
 -- a load puts store into copy
 abbrev pub loadedCopy : List ℕ → List ℕ → Work → List ℕ
@@ -32,9 +35,9 @@ burnedStore store copy Nothing = store
 burnedStore store copy (Load due) = store
 burnedStore store copy (Burn due) = set store due (getD copy due 0)
 
--- the byte, store and copy of a tick
-pub record Moved (s c : List ℕ) (work : Work) (b : ℕ) (s′ c′ : List ℕ) : Type 0 where
-  pub byte : b ≡ movedByte s c work
+-- a tick's answer, store and copy
+pub record Moved (s c : List ℕ) (work : Work) (a : TickAnswer) (s′ c′ : List ℕ) : Type 0 where
+  pub answer : a ≡ tickAnswer s c work
   pub store : s′ ≡ burnedStore s c work
   pub copy : c′ ≡ loadedCopy s c work
 

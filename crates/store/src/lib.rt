@@ -3,6 +3,8 @@ ghost use mathlib.Core.Path.{_≡_};
 ghost use lib.ListN.{getD};
 ghost use Rattle.store.specs.Bytes.{Moved, tornStore, zeros, writtenCopy};
 use action::Action;
+use answers::Refusal;
+use answers::TickAnswer;
 use work::Work;
 
 // A power cut: clean, or torn with a byte (document 01: struck).
@@ -11,24 +13,24 @@ pub enum Cut {
     Torn(u8),
 }
 
-// A tick's byte goes from store to copy, or from copy to store; it is the result, 0 where none goes.
-pub fn move_byte(store: &mut [u8; 256], copy: &mut [u8; 256], work: Work) -> u8
+// A tick's byte goes from store to copy, or from copy to store.
+pub fn move_byte(store: &mut [u8; 256], copy: &mut [u8; 256], work: Work) -> TickAnswer
     ensures { λ r. ⌜ Moved (now (store .entry)) (now (copy .entry)) work r (now (store .exit)) (now (copy .exit)) ⌝ }
 {
     match work {
-        Work::Refused => 0,
-        Work::Nothing => 0,
+        Work::Refused => TickAnswer::Refused(Refusal::PoweredOff),
+        Work::Nothing => TickAnswer::Nothing,
         Work::Load(due) => {
             let at = due as usize;
             let byte = store[at];
             copy[at] = byte;
-            byte
+            TickAnswer::Loaded(due, byte)
         }
         Work::Burn(due) => {
             let at = due as usize;
             let byte = copy[at];
             store[at] = byte;
-            byte
+            TickAnswer::Burned(due, byte)
         }
     }
 }

@@ -6,7 +6,7 @@ use mathlib.Core.List.{List}
 use Rattle.jobs.specs.Job.{firstLoad}
 use Rattle.work.specs.Work.{workOf, afterWork}
 use Rattle.work.specs.declared.Work.{Work}
-use Rattle.store.specs.Bytes.{movedByte, loadedCopy, burnedStore, tornStore, zeros}
+use Rattle.store.specs.Bytes.{tickAnswer, loadedCopy, burnedStore, tornStore, zeros}
 use Rattle.store.specs.declared.Cut.{Cut}
 use Rattle.bus.specs.Bus.{noBus}
 use Rattle.dom.specs.Codes.{acceptable}
@@ -18,7 +18,6 @@ use Rattle.monitor.specs.declared.Monitor.{Monitor}
 use Rattle.alarms.specs.Alarms.{noAlarms, restarted, afterLines, afterSample}
 use Rattle.alarms.specs.declared.Alarms.{Alarms}
 use Rattle.alarms.specs.declared.Lines.{Lines}
-use Rattle.answers.specs.Answers.{tickAnswer}
 use Rattle.answers.specs.declared.Answer.the-variants.{Accepted, Refused}
 use Rattle.answers.specs.declared.Refusal.{Refusal}
 use Rattle.answers.specs.declared.Refusal.the-variants.{Temperature, PoweredOff, PoweredOn}
@@ -98,7 +97,7 @@ tickBy m w =
             alarms = m .alarms;
             monitor = m .monitor;
           };
-      answer = tickAnswer w (movedByte (m .store) (m .copy) w);
+      answer = tickAnswer (m .store) (m .copy) w;
     }
 
 unfoldable pub tick : Module → TickOutcome

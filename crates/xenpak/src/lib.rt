@@ -147,10 +147,9 @@ impl Module {
         self.job = after_work(job, work);
         let mut store = self.store;
         let mut copy = self.copy;
-        let byte = move_byte(&mut store, &mut copy, work);
+        let answer = move_byte(&mut store, &mut copy, work);
         self.store = store;
         self.copy = copy;
-        let answer = TickAnswer::of(work, byte);
         TickOutcome {
             next: self,
             answer: answer,

@@ -2,6 +2,7 @@
 -- Assumes nothing.
 use mathlib.Core.Path.{refl}
 use borrow.Author.Needs.{needs}
+use borrow.Author.Needs.{needs}
 use Rattle.store.proofs.move_byte.Statement.{statement}
 use Rattle.store.proofs.move_byte.Tie as tie
 
@@ -19,7 +20,7 @@ move-byte-spec =
     (λ c. search needs)
     (λ c. search needs)
     (λ c. search needs)
+    (λ c. rw (c .enum-told .given .1) (record { answer = refl; store = refl; copy = refl }))
     (λ c. search needs)
-    (λ c. search needs)
-    (λ c. rw (c .before .before .work .given .1) (record { byte = refl; store = refl; copy = refl }))
-    (λ c. rw (c .before .before .work2 .given .1) (record { byte = refl; store = refl; copy = refl })))
+    (λ c. rw (c .before .before .work .given .1) (record { answer = refl; store = refl; copy = refl }))
+    (λ c. rw (c .before .before .work2 .given .1) (record { answer = refl; store = refl; copy = refl })))
