@@ -40,6 +40,7 @@ fn differ(a: bool, b: bool) -> bool
 }
 
 impl Alarms {
+    // What power-on leaves: nothing enabled, nothing seen, the link down.
     pub const NONE: Alarms = Alarms {
         controls: Controls::ZERO,
         rxfaults: Latch::NONE,

@@ -1,4 +1,4 @@
--- What each call answers: document 01's number of each refusal, number and values of each answer, and which is given.
+-- What each call answers: document 01's number of each refusal, number and values of each answer, and which a frame gets.
 -- Assumes nothing.
 use Prim.Native.Nat.{ℕ}
 use mathlib.Core.List.{List, [], _∷_}

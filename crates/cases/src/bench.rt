@@ -1,4 +1,4 @@
-// Modules for the bench.
+// The modules that the cases start from.
 use crate::print::made;
 use creation::make;
 use xenpak::Module;
@@ -8,7 +8,7 @@ use xenpak::Module;
 const THRESHOLDS: [u8; 41] =
     *b"\x46\x00\xf6\x00\x41\x00\xfb\x00\xa8\xa9\xaa\xab\xac\xad\xae\xaf\x9c\x40\x0f\xa0\x8c\xa0\x13\x88\xf0\x00\x01\x00\xe0\x00\x02\x00\xff\xfe\x00\x01\x90\x00\x00\x10\x00";
 
-// Each byte is its offset, but the checksum at 118, which is F7. One byte more.
+// Each byte is its offset, but the checksum at 118; F7 is right. One byte more.
 fn image(checksum: u8) -> [u8; 257] {
     let mut bytes = [0; 257];
     for i in 0..256 {
@@ -27,8 +27,8 @@ fn thresholds(at: usize, code: u16) -> [u8; 41] {
     bytes
 }
 
-// A module made with these lengths of image and thresholds (three digits each), this checksum, and this threshold code
-// (four digits) at a byte (four digits).
+// A module made with these lengths of image and thresholds (three digits each, at most 257 and 41), this checksum, and
+// this threshold code (four digits) at a byte (four digits).
 pub fn module(port: u8, lengths: u32, checksum: u8, place: u32, shown: bool) -> Module {
     let whole = image(checksum);
     let table = thresholds((place / 0x1_0000) as usize, (place % 0x1_0000) as u16);

@@ -40,8 +40,9 @@ pub const READ: u64 = 0x11_0000_0000;
 
 pub const WALK: u64 = 0x12_0000_0000;
 
-// Making, whose answer is shown: with a port (two digits) and the lengths of image and thresholds (three digits each); the same with checksum
-// and order wrong; with this checksum; with another threshold code (four digits) at a byte (four digits).
+// Making, whose answer is shown: with a port (two digits) and the lengths of image and thresholds (three digits each);
+// the same with checksum and order wrong; with this checksum; with another threshold code (four digits) at a byte (four
+// digits).
 pub const MAKE: u64 = 0x20_0000_0000;
 
 pub const MAKE_WRONG: u64 = 0x21_0000_0000;

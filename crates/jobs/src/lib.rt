@@ -35,6 +35,7 @@ pub struct Job {
 }
 
 impl Job {
+    // No job, and the word at 8000 zero: a module that was never powered.
     pub const IDLE: Job = Job {
         kept: 0,
         kind: NONE,
@@ -43,6 +44,7 @@ impl Job {
         ended: 0,
     };
 
+    // What power-on and reset start: 8000 reads 000B.
     pub const FIRST_LOAD: Job = Job {
         kept: 0x0003,
         kind: FIRST,

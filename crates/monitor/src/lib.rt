@@ -37,6 +37,7 @@ fn byte_of(code: u16, low: bool, held: bool, byte: u8) -> u16
 }
 
 impl Monitor {
+    // No sample yet, and no byte held.
     pub const NONE: Monitor = Monitor {
         sample: Sample {
             temperature: 0,

@@ -1,4 +1,5 @@
-// Store and copy: the byte that a tick moves, the byte that a cut leaves, and what writes and starts leave in the copy.
+// Store and copy: the byte that a tick moves and its answer, the byte that a cut leaves, and what a frame leaves in the
+// copy.
 ghost use mathlib.Core.Path.{_≡_};
 ghost use lib.ListN.{getD};
 ghost use Rattle.store.specs.Bytes.{Moved, tornStore, zeros, writtenCopy};

@@ -54,6 +54,7 @@ pub struct TickOutcome {
     pub answer: TickAnswer,
 }
 
+// Every call but power-on is refused with 7 when the module is off.
 impl Module {
     // A call that would leave the record `next`: refused with 7 when off, then with 6 when its temperature is not right.
     fn taken(self, right: bool, next: Module) -> Outcome
