@@ -41,15 +41,13 @@ pub fn tear(store: &mut [u8; 256], work: Work, cut: Cut)
     ensures { λ _. ⌜ now (store .exit) ≡ tornStore (now (store .entry)) work cut ⌝ }
 {
     match work {
-        Work::Refused => {}
-        Work::Nothing => {}
-        Work::Load(_) => {}
         Work::Burn(due) => match cut {
             Cut::Clean => {}
             Cut::Torn(byte) => {
                 store[due as usize] = byte;
             }
         },
+        _ => {}
     }
 }
 
@@ -65,17 +63,11 @@ pub fn write_copy(copy: &mut [u8; 256], action: Action)
     ensures { λ _. ⌜ now (copy .exit) ≡ writtenCopy (now (copy .entry)) action ⌝ }
 {
     match action {
-        Action::Refused => {}
-        Action::Silent => {}
-        Action::SetAddress(_) => {}
-        Action::Dropped => {}
         Action::Reset => zero(copy),
-        Action::Command(_) => {}
         Action::Customer(offset, byte) => {
             copy[offset as usize] = byte;
         }
-        Action::Control(_, _) => {}
-        Action::Read(_, _) => {}
+        _ => {}
     }
 }
 
