@@ -1,6 +1,7 @@
 -- What each call answers: document 01's number of each refusal, number and values of each answer, and which a frame gets.
 -- Assumes nothing.
 use Prim.Native.Nat.{ℕ}
+use mathlib.Core.Bool.{Bool, cond, not}
 use mathlib.Core.List.{List, [], _∷_}
 use Rattle.action.specs.declared.Action.{Action}
 use Rattle.action.specs.declared.Action.the-variants as action
@@ -62,6 +63,26 @@ saidTick (tick.Refused why) = refusedWith why
 abbrev pub saidSettle : SettleAnswer → Said
 saidSettle (settle.Ticks count) = says 0 (count ∷ [])
 saidSettle (settle.Refused why) = refusedWith why
+
+-- ---- which answer a call gets
+-- making, by whether port, image length, thresholds length, checksum and thresholds' order are right: 1 to 5, the lowest
+-- number first
+abbrev pub makingAnswer : (port image thresholds checksum ordered : Bool) → Answer
+makingAnswer port image thresholds checksum ordered =
+    cond (not port) (plain.Refused Port)
+    (cond (not image) (plain.Refused ImageLength)
+    (cond (not thresholds) (plain.Refused ThresholdsLength)
+    (cond (not checksum) (plain.Refused Checksum)
+    (cond (not ordered) (plain.Refused ThresholdOrder) plain.Accepted))))
+
+-- power-on: 8 while powered
+abbrev pub powerOnAnswer : (powered : Bool) → Answer
+powerOnAnswer powered = cond powered (plain.Refused PoweredOn) plain.Accepted
+
+-- cut, reset pin, lines and sample: 7 powered off, which precedes 6, a sample's temperature out of range
+abbrev pub callAnswer : (powered acceptable : Bool) → Answer
+callAnswer powered acceptable =
+    cond (not powered) (plain.Refused PoweredOff) (cond (not acceptable) (plain.Refused Temperature) plain.Accepted)
 
 -- the answer of a frame that reads this value
 abbrev pub frameAnswer : Action → ℕ → FrameAnswer

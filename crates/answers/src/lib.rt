@@ -1,6 +1,6 @@
 // What each call answers.
 ghost use mathlib.Core.Path.{_≡_};
-ghost use Rattle.answers.specs.Answers.{frameAnswer};
+ghost use Rattle.answers.specs.Answers.{makingAnswer, powerOnAnswer, callAnswer, frameAnswer};
 use action::Action;
 
 // Why a call is refused; `refusalNumber` in specs/ has document 01's number of each.
@@ -42,6 +42,60 @@ pub enum TickAnswer {
 pub enum SettleAnswer {
     Ticks(u32),
     Refused(Refusal),
+}
+
+impl Answer {
+    // Of making, by whether the port, the lengths of image and thresholds, the checksum and the thresholds' order are
+    // right: refusals 1 to 5, the lowest first.
+    pub fn to_making(
+        port: bool,
+        image: bool,
+        thresholds: bool,
+        checksum: bool,
+        ordered: bool,
+    ) -> Answer
+        ensures { λ r. ⌜ r ≡ makingAnswer port image thresholds checksum ordered ⌝ }
+    {
+        if !port {
+            return Answer::Refused(Refusal::Port);
+        }
+        if !image {
+            return Answer::Refused(Refusal::ImageLength);
+        }
+        if !thresholds {
+            return Answer::Refused(Refusal::ThresholdsLength);
+        }
+        if !checksum {
+            return Answer::Refused(Refusal::Checksum);
+        }
+        if !ordered {
+            return Answer::Refused(Refusal::ThresholdOrder);
+        }
+        Answer::Accepted
+    }
+
+    // Of power-on: 8 when powered.
+    pub fn to_power_on(powered: bool) -> Answer
+        ensures { λ r. ⌜ r ≡ powerOnAnswer powered ⌝ }
+    {
+        if powered {
+            return Answer::Refused(Refusal::PoweredOn);
+        }
+        Answer::Accepted
+    }
+
+    // Of cut, reset pin, lines and sample: 7 when off, then 6 where a sample's temperature is not acceptable.
+    pub fn to_call(powered: bool, acceptable: bool) -> Answer
+        ensures { λ r. ⌜ r ≡ callAnswer powered acceptable ⌝ }
+    {
+        if !powered {
+            return Answer::Refused(Refusal::PoweredOff);
+        }
+        if !acceptable {
+            return Answer::Refused(Refusal::Temperature);
+        }
+        Answer::Accepted
+    }
 }
 
 impl FrameAnswer {

@@ -1,5 +1,9 @@
-// The modules that the cases start from.
-use crate::print::made;
+// The modules that a sheet makes.
+use crate::print::plain;
+use crate::sheet::CODES;
+use crate::sheet::IMAGE;
+use crate::sheet::Step;
+use crate::sheet::decimal;
 use creation::make;
 use xenpak::Module;
 
@@ -8,39 +12,76 @@ use xenpak::Module;
 const THRESHOLDS: [u8; 41] =
     *b"\x46\x00\xf6\x00\x41\x00\xfb\x00\xa8\xa9\xaa\xab\xac\xad\xae\xaf\x9c\x40\x0f\xa0\x8c\xa0\x13\x88\xf0\x00\x01\x00\xe0\x00\x02\x00\xff\xfe\x00\x01\x90\x00\x00\x10\x00";
 
-// Each byte is its offset, but the checksum at 118; F7 is right. One byte more.
-fn image(checksum: u8) -> [u8; 257] {
-    let mut bytes = [0; 257];
-    for i in 0..256 {
-        bytes[i] = (i % 256) as u8;
+// What a module is made of: how many bytes of an image, which checksum it has, how many bytes of the thresholds, and a code
+// at one of their bytes.
+pub struct Parts {
+    image: u32,
+    checksum: u8,
+    thresholds: u32,
+    at: u32,
+    code: u16,
+}
+
+impl Parts {
+    pub const RIGHT: Parts = Parts {
+        image: 256,
+        checksum: 0xf7,
+        thresholds: 40,
+        at: 0,
+        code: 0x4600,
+    };
+
+    // After a step.
+    pub fn after(mut self, step: Step) -> Parts {
+        let word = step.word;
+        match word {
+            IMAGE => {
+                self.image = decimal(step.first);
+                self.checksum = (step.second % 256) as u8;
+            }
+            CODES => {
+                self.thresholds = decimal(step.first);
+                self.at = decimal(step.second);
+                self.code = (step.third % 0x1_0000) as u16;
+            }
+            _ => {}
+        }
+        self
     }
-    bytes[118] = checksum;
-    bytes
-}
 
-fn thresholds(at: usize, code: u16) -> [u8; 41] {
-    let mut bytes = THRESHOLDS;
-    if at < 40 {
-        bytes[at] = (code / 256) as u8;
-        bytes[at + 1] = (code % 256) as u8;
+    // Each byte is its offset, but the checksum at 118; F7 is right. One byte more.
+    fn image(self) -> [u8; 257] {
+        let mut bytes = [0; 257];
+        for i in 0..256 {
+            bytes[i] = (i % 256) as u8;
+        }
+        bytes[118] = self.checksum;
+        bytes
     }
-    bytes
+
+    // The thresholds above, with the code at its byte.
+    fn thresholds(self) -> [u8; 41] {
+        let mut bytes = THRESHOLDS;
+        let at = (self.at % 40) as usize;
+        bytes[at] = (self.code / 256) as u8;
+        bytes[at + 1] = (self.code % 256) as u8;
+        bytes
+    }
+
+    // The module made of these.
+    pub fn made(self, port: u8, asks: bool) -> Module {
+        let image = self.image();
+        let thresholds = self.thresholds();
+        let image_end = (self.image % 258) as usize;
+        let thresholds_end = (self.thresholds % 42) as usize;
+        let outcome = make(port, &image[0..image_end], &thresholds[0..thresholds_end]);
+        let answer = outcome.answer;
+        plain(answer, asks);
+        outcome.next
+    }
 }
 
-// A module made with these lengths of image and thresholds (three digits each, at most 257 and 41), this checksum, and
-// this threshold code (four digits) at a byte (four digits).
-pub fn module(port: u8, lengths: u32, checksum: u8, place: u32, shown: bool) -> Module {
-    let whole = image(checksum);
-    let table = thresholds((place / 0x1_0000) as usize, (place % 0x1_0000) as u16);
-    let image_length = (lengths / 0x1000 % 258) as usize;
-    let table_length = (lengths % 0x1000 % 42) as usize;
-    let outcome = make(port, &whole[0..image_length], &table[0..table_length]);
-    let answer = outcome.answer;
-    made(answer, shown);
-    outcome.next
-}
-
-// The module that every line starts with: port 5, powered off.
+// Port 5, powered off.
 pub fn fresh() -> Module {
-    module(5, 0x10_0028, 0xf7, 0x4600, false)
+    Parts::RIGHT.made(5, false)
 }

@@ -1,4 +1,4 @@
-// What the cases write to standard output.
+// What a step gave, behind an equals sign.
 use answers::Answer;
 use answers::FrameAnswer;
 use answers::Refusal;
@@ -11,15 +11,15 @@ pub fn text(s: &[u8]) {
     io::write_all(STDOUT_FILENO, s);
 }
 
-// A space, and four hexadecimal digits.
+// Four hexadecimal digits.
 pub fn word(n: u16) {
-    text(b" ");
+    text(b"=");
     io::print_hex(STDOUT_FILENO, n as u64, 4);
 }
 
-// A space, and a decimal number.
+// A decimal number.
 pub fn number(n: u32) {
-    text(b" ");
+    text(b"=");
     io::print_decimal(STDOUT_FILENO, n as u64);
 }
 
@@ -38,25 +38,27 @@ fn refusal(why: Refusal) {
     number(n);
 }
 
-fn plain(answer: Answer) {
-    match answer {
-        Answer::Accepted => text(b" ok"),
-        Answer::Refused(why) => refusal(why),
+pub fn plain(answer: Answer, asks: bool) {
+    if asks {
+        match answer {
+            Answer::Accepted => text(b"=ok"),
+            Answer::Refused(why) => refusal(why),
+        }
     }
 }
 
-// s silent, a address set, w written, d dropped, or the data.
 fn framed(answer: FrameAnswer) {
     match answer {
-        FrameAnswer::Silent => text(b" s"),
-        FrameAnswer::Set => text(b" a"),
-        FrameAnswer::Written => text(b" w"),
-        FrameAnswer::Dropped => text(b" d"),
+        FrameAnswer::Silent => text(b"=silent"),
+        FrameAnswer::Set => text(b"=set"),
+        FrameAnswer::Written => text(b"=written"),
+        FrameAnswer::Dropped => text(b"=dropped"),
         FrameAnswer::Data(value) => word(value),
         FrameAnswer::Refused(why) => refusal(why),
     }
 }
 
+// A tick's offset and byte.
 fn moved(name: &[u8], offset: u8, byte: u8) {
     text(name);
     number(offset as u32);
@@ -65,9 +67,9 @@ fn moved(name: &[u8], offset: u8, byte: u8) {
 
 fn ticked(answer: TickAnswer) {
     match answer {
-        TickAnswer::Nothing => text(b" nothing"),
-        TickAnswer::Loaded(offset, byte) => moved(b" loaded", offset, byte),
-        TickAnswer::Burned(offset, byte) => moved(b" burned", offset, byte),
+        TickAnswer::Nothing => text(b"=nothing"),
+        TickAnswer::Loaded(offset, byte) => moved(b"=loaded", offset, byte),
+        TickAnswer::Burned(offset, byte) => moved(b"=burned", offset, byte),
         TickAnswer::Refused(why) => refusal(why),
     }
 }
@@ -79,20 +81,15 @@ pub fn settled(answer: SettleAnswer) {
     }
 }
 
-// The answer to a making, if it is to be shown.
-pub fn made(answer: Answer, shown: bool) {
-    if shown {
-        plain(answer);
-    }
-}
-
-// The answer to a call, if it is to be shown.
-pub fn answered(answer: CallAnswer, shown: bool) {
-    if shown {
-        match answer {
-            CallAnswer::Plain(a) => plain(a),
-            CallAnswer::Frame(a) => framed(a),
-            CallAnswer::Tick(a) => ticked(a),
-        }
+// The answer to a call, if it is asked for.
+pub fn answered(answer: CallAnswer, asks: bool) {
+    match answer {
+        CallAnswer::Plain(a) => plain(a, asks),
+        CallAnswer::Frame(a) => if asks {
+            framed(a)
+        },
+        CallAnswer::Tick(a) => if asks {
+            ticked(a)
+        },
     }
 }

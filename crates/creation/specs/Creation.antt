@@ -2,8 +2,9 @@
 -- Assumes nothing.
 use Prim.Native.Nat.{ℕ}
 use mathlib.Core.Bool.{Bool, false, cond}
+use mathlib.Core.Path.{_≡_}
 use mathlib.Core.List.{List}
-use lib.Dec.{eqb, ltb}
+use lib.Dec.{eqb, leb}
 use lib.ListN.{length}
 use Rattle.nvr.specs.Image.{checksumRight}
 use Rattle.jobs.specs.Job.{noJob}
@@ -12,10 +13,8 @@ use Rattle.thresholds.specs.Thresholds.{thresholdsOf, ordered}
 use Rattle.monitor.specs.Monitor.{noMonitor}
 use Rattle.alarms.specs.Alarms.{noAlarms}
 use Rattle.bus.specs.Bus.{noBus}
-use Rattle.answers.specs.declared.Refusal.{Refusal}
-use Rattle.answers.specs.declared.Refusal.the-variants.{Port, ImageLength, ThresholdsLength, Checksum, ThresholdOrder}
-use Rattle.answers.specs.declared.Answer.the-variants.{Refused}
-use Rattle.xenpak.specs.Calls.{accepted}
+use Rattle.answers.specs.Answers.{makingAnswer}
+use Rattle.xenpak.specs.Calls.{taken}
 use Rattle.xenpak.specs.declared.Module.{Module}
 use Rattle.xenpak.specs.declared.Outcome.{Outcome}
 
@@ -38,22 +37,16 @@ fresh port image thresholds =
 abbrev pub blank : Module
 blank = fresh 0 (zeros 256) (zeros 40)
 
--- a refused making gives the blank module
-abbrev pub refused : Refusal → Outcome
-refused why = record { next = blank; answer = Refused why }
+-- bytes of the right length take their place, others do not
+pub record Copied (from into : List ℕ) (r : Bool) (after : List ℕ) : Type 0 where
+  pub fits : r ≡ eqb (length from) (length into)
+  pub bytes : after ≡ cond r from into
 
-abbrev pub judgedBy : Bool → Bool → Module → Outcome
-judgedBy right ordered next =
-    cond right (cond ordered (accepted next) (refused ThresholdOrder)) (refused Checksum)
-
--- 4: basic checksum wrong; 5: a quantity's thresholds not in order
-abbrev pub judged : ℕ → List ℕ → List ℕ → Outcome
-judged port image thresholds = judgedBy (checksumRight image) (ordered (thresholdsOf thresholds)) (fresh port image thresholds)
-
--- 1: port above 31; 2: image not 256 bytes; 3: thresholds not 40 bytes
+-- 1: port above 31; 2: image not 256 bytes; 3: thresholds not 40 bytes; 4: basic checksum wrong; 5: a quantity's
+-- thresholds not in order. Refused, making gives the blank module
 unfoldable pub make : ℕ → List ℕ → List ℕ → Outcome
 make port image thresholds =
-    cond (ltb 31 port) (refused Port)
-    (cond (eqb (length image) 256)
-    (cond (eqb (length thresholds) 40) (judged port image thresholds) (refused ThresholdsLength))
-    (refused ImageLength))
+    taken
+    (makingAnswer (leb port 31) (eqb (length image) 256) (eqb (length thresholds) 40) (checksumRight image)
+    (ordered (thresholdsOf thresholds)))
+    blank (fresh port image thresholds)

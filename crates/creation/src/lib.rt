@@ -1,10 +1,8 @@
 // Making a module from its port, image and thresholds.
 ghost use mathlib.Core.Path.{_≡_};
-ghost use lib.ListN.{length};
-ghost use Rattle.creation.specs.Creation.{fresh, refused, judged, judgedBy, make};
+ghost use Rattle.creation.specs.Creation.{Copied, fresh, make};
 use alarms::Alarms;
 use answers::Answer;
-use answers::Refusal;
 use bus::Bus;
 use jobs::Job;
 use monitor::Monitor;
@@ -14,32 +12,19 @@ use thresholds::thresholds_of;
 use xenpak::Module;
 use xenpak::Outcome;
 
-// The bytes of a slice of 256.
-fn bytes256(bytes: &[u8]) -> [u8; 256]
-    requires { ⌜ length (now bytes) ≡ 256 ⌝ }
-    ensures { λ r. ⌜ r ≡ now (bytes .entry) ⌝ }
+// Copies bytes of the same length, and says whether they are; others are not copied.
+fn copied(bytes: &[u8], into: &mut [u8]) -> bool
+    ensures { λ r. ⌜ Copied (now (bytes .entry)) (now (into .entry)) r (now (into .exit)) ⌝ }
 {
-    let mut a = [0; 256];
+    if bytes.len() != into.len() {
+        return false;
+    }
     let mut i = 0;
-    while i < 256 {
-        a[i] = bytes[i];
+    while i < into.len() {
+        into[i] = bytes[i];
         i += 1;
     }
-    a
-}
-
-// The bytes of a slice of 40.
-fn bytes40(bytes: &[u8]) -> [u8; 40]
-    requires { ⌜ length (now bytes) ≡ 40 ⌝ }
-    ensures { λ r. ⌜ r ≡ now (bytes .entry) ⌝ }
-{
-    let mut a = [0; 40];
-    let mut i = 0;
-    while i < 40 {
-        a[i] = bytes[i];
-        i += 1;
-    }
-    a
+    true
 }
 
 // Off, with this store and these thresholds, all else at zero.
@@ -59,56 +44,17 @@ fn fresh(port: u8, store: [u8; 256], thresholds: [u8; 40]) -> Module
     }
 }
 
-// A refused making gives the blank module.
-fn refused(why: Refusal) -> Outcome
-    ensures { λ r. ⌜ r ≡ refused why ⌝ }
-{
-    Outcome {
-        next: fresh(0, [0; 256], [0; 40]),
-        answer: Answer::Refused(why),
-    }
-}
-
-// Refusals 4 and 5.
-fn judged_by(right: bool, ordered: bool, next: Module) -> Outcome
-    ensures { λ r. ⌜ r ≡ judgedBy right ordered next ⌝ }
-{
-    if right {
-        if ordered {
-            return Outcome {
-                next: next,
-                answer: Answer::Accepted,
-            };
-        }
-        return refused(Refusal::ThresholdOrder);
-    }
-    refused(Refusal::Checksum)
-}
-
-fn judged(port: u8, image: [u8; 256], thresholds: [u8; 40]) -> Outcome
-    ensures { λ r. ⌜ r ≡ judged port image thresholds ⌝ }
-{
-    let right = checksum_right(&image);
-    let table = thresholds_of(&thresholds);
-    let in_order = ordered(table);
-    let next = fresh(port, image, thresholds);
-    judged_by(right, in_order, next)
-}
-
-// A fresh module, or the lowest number's refusal.
+// A fresh module; refused, the blank module: port 0, all bytes zero, off.
 pub fn make(port: u8, image: &[u8], thresholds: &[u8]) -> Outcome
     ensures { λ r. ⌜ r ≡ make port (now (image .entry)) (now (thresholds .entry)) ⌝ }
 {
-    if 31 < port {
-        return refused(Refusal::Port);
-    }
-    if image.len() != 256 {
-        return refused(Refusal::ImageLength);
-    }
-    if thresholds.len() != 40 {
-        return refused(Refusal::ThresholdsLength);
-    }
-    let store = bytes256(image);
-    let table = bytes40(thresholds);
-    judged(port, store, table)
+    let mut store = [0; 256];
+    let mut codes = [0; 40];
+    let whole = copied(image, &mut store);
+    let table = copied(thresholds, &mut codes);
+    let right = checksum_right(&store);
+    let in_order = ordered(thresholds_of(&codes));
+    let answer = Answer::to_making(port <= 31, whole, table, right, in_order);
+    let blank = fresh(0, [0; 256], [0; 40]);
+    blank.taken(answer, fresh(port, store, codes))
 }

@@ -33,9 +33,11 @@ pub fn signed_code(code: u16) -> i16
     }
 }
 
-// A temperature that a sample may have: D800 (-0x2800) to 7D00. Any other is refused with 6.
-pub fn acceptable(temperature: i16) -> bool
-    ensures { λ r. ⌜ r ≡ acceptable temperature ⌝ }
-{
-    (-0x2800 <= temperature) & (temperature <= 0x7d00)
+impl Sample {
+    // Its temperature is D800 (-0x2800) to 7D00. Any other is refused with 6.
+    pub fn acceptable(self) -> bool
+        ensures { λ r. ⌜ r ≡ acceptable (self .temperature) ⌝ }
+    {
+        (-0x2800 <= self.temperature) & (self.temperature <= 0x7d00)
+    }
 }

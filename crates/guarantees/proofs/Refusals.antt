@@ -5,7 +5,7 @@ use mathlib.Core.Bool.{Bool, true, false, cond, not}
 use mathlib.Core.Logic.{_≢_}
 use mathlib.Core.List.{List}
 use mathlib.Core.Path.{_≡_, refl, _∙_}
-use lib.Dec.{eqb, ltb}
+use lib.Dec.{eqb, leb}
 use lib.ListN.{length}
 use Rattle.words.specs.Words.{bit}
 use Rattle.mdio.specs.Frame.{requestOf}
@@ -24,53 +24,45 @@ use Rattle.store.specs.Bytes.{tickAnswer}
 use Rattle.jobs.specs.declared.Job.{Job}
 use Rattle.dom.specs.Codes.{acceptable}
 use Rattle.thresholds.specs.Thresholds.{thresholdsOf, ordered}
-use Rattle.answers.specs.Answers.{saidPlain, saidFrame, saidTick, frameAnswer}
+use Rattle.answers.specs.Answers.{saidPlain, saidFrame, saidTick, makingAnswer, powerOnAnswer, callAnswer, frameAnswer}
 use Rattle.calls.specs.Calls.{step}
 use Rattle.xenpak.specs.Frame.{frame, valueAt}
 use Rattle.xenpak.specs.Calls as calls
 use Rattle.calls.specs.declared.Call.{Call}
 use Rattle.calls.specs.declared.Call.the-variants as call
 use Rattle.xenpak.specs.declared.Module.{Module}
-use Rattle.xenpak.specs.declared.Outcome.{Outcome}
-use Rattle.creation.specs.Creation.{fresh, blank, refused, judgedBy, make}
-use Rattle.answers.specs.declared.Refusal.the-variants.{Port, ImageLength, ThresholdsLength, PoweredOn}
+use Rattle.creation.specs.Creation.{fresh, blank, make}
 use Rattle.guarantees.specs.Guarantees.{MakeRefusals, refusalBy, Refusals}
 
 -- ---- making
-module _ (m : Module) where
-  abbrev judgement : (port image thresholds sum order : Bool) → Outcome
-  judgement port image thresholds sum order =
-      cond port (refused Port) (cond image (cond thresholds (judgedBy sum order m) (refused ThresholdsLength)) (refused ImageLength))
+abbrev number : (port image thresholds sum order : Bool) → ℕ
+number port image thresholds sum order = cond port (cond image (cond thresholds (cond sum (cond order 0 5) 4) 3) 2) 1
 
-  abbrev number : (port image thresholds sum order : Bool) → ℕ
-  number port image thresholds sum order = cond port 1 (cond image (cond thresholds (cond sum (cond order 0 5) 4) 3) 2)
+numbered : (p i t c o : Bool) → saidPlain (makingAnswer p i t c o) .refusal ≡ number p i t c o
+numbered false i t c o = refl
+numbered true false t c o = refl
+numbered true true false c o = refl
+numbered true true true false o = refl
+numbered true true true true false = refl
+numbered true true true true true = refl
 
-  numbered : (p i t c o : Bool) → saidPlain (judgement p i t c o .answer) .refusal ≡ number p i t c o
-  numbered true i t c o = refl
-  numbered false false t c o = refl
-  numbered false true false c o = refl
-  numbered false true true false o = refl
-  numbered false true true true false = refl
-  numbered false true true true true = refl
-
-  blanked : (p i t c o : Bool) → number p i t c o ≢ 0 → judgement p i t c o .next ≡ blank
-  blanked true i t c o f = refl
-  blanked false false t c o f = refl
-  blanked false true false c o f = refl
-  blanked false true true false o f = refl
-  blanked false true true true false f = refl
-  blanked false true true true true f = absurd (f refl)
+blanked : (m : Module) (p i t c o : Bool) → number p i t c o ≢ 0 → calls.kept (makingAnswer p i t c o) blank m ≡ blank
+blanked m false i t c o f = refl
+blanked m true false t c o f = refl
+blanked m true true false c o f = refl
+blanked m true true true false o f = refl
+blanked m true true true true false f = refl
+blanked m true true true true true f = absurd (f refl)
 
 pub make-refusals : MakeRefusals
 unfolding make
 make-refusals port image thresholds =
-    let m = fresh port image thresholds in
-    let p = ltb 31 port in
+    let p = leb port 31 in
     let i = eqb (length image) 256 in
     let t = eqb (length thresholds) 40 in
     let c = checksumRight image in
     let o = ordered (thresholdsOf thresholds) in
-    record { number = numbered m p i t c o; blank-given = blanked m p i t c o }
+    record { number = numbered p i t c o; blank-given = blanked (fresh port image thresholds) p i t c o }
 
 -- ---- the other calls
 abbrev frameNumber : Action → ℕ → ℕ
@@ -107,11 +99,11 @@ works s c j = go (eqb (j .kind) 0) (eqb (j .kind) 2) refl refl
     go false true p q = rw (p, q)
     go false false p q = rw (p, q)
 
--- a call that needs power and right arguments
-powers : (m n : Module) (b right : Bool) → saidPlain (calls.taken b right m n .answer) .refusal ≡ cond b (cond right 0 6) 7
-powers m n true true = refl
-powers m n true false = refl
-powers m n false right = refl
+-- a call that needs power, and a temperature in range if it is a sample
+powers : (b right : Bool) → saidPlain (callAnswer b right) .refusal ≡ cond b (cond right 0 6) 7
+powers true true = refl
+powers true false = refl
+powers false right = refl
 
 on-off : (b : Bool) (c : Call) {n : ℕ} → n ≡ refusalBy true c → 7 ≡ refusalBy false c → cond b n 7 ≡ refusalBy b c
 on-off true c p q = p
@@ -119,13 +111,13 @@ on-off false c p q = q
 
 pub refusals : Refusals
 unfolding step calls.powerOn calls.powerCut calls.resetPin calls.tick calls.lines calls.sample frame actionOf
-refusals m call.PowerOn = go (m .powered) _
+refusals m call.PowerOn = go (m .powered)
   where
-    go : (b : Bool) (n : Module) → saidPlain (cond b (calls.refused PoweredOn m) (calls.accepted n) .answer) .refusal ≡ refusalBy b call.PowerOn
-    go true n = refl
-    go false n = refl
-refusals m (call.Cut cut) = powers m _ (m .powered) true ∙ on-off (m .powered) (call.Cut cut) refl refl
-refusals m call.ResetPin = powers m _ (m .powered) true ∙ on-off (m .powered) call.ResetPin refl refl
+    go : (b : Bool) → saidPlain (powerOnAnswer b) .refusal ≡ refusalBy b call.PowerOn
+    go true = refl
+    go false = refl
+refusals m (call.Cut cut) = powers (m .powered) true ∙ on-off (m .powered) (call.Cut cut) refl refl
+refusals m call.ResetPin = powers (m .powered) true ∙ on-off (m .powered) call.ResetPin refl refl
 refusals m (call.Frame word) = go (m .powered)
   where
     go : (b : Bool)
@@ -139,5 +131,5 @@ refusals m call.Tick = go (m .powered)
     go : (b : Bool) → saidTick (tickAnswer (m .store) (m .copy) (workOf b (m .job))) .refusal ≡ refusalBy b call.Tick
     go true = works (m .store) (m .copy) (m .job)
     go false = refl
-refusals m (call.Lines l) = powers m _ (m .powered) true ∙ on-off (m .powered) (call.Lines l) refl refl
-refusals m (call.Sample s) = powers m _ (m .powered) (acceptable (s .temperature)) ∙ on-off (m .powered) (call.Sample s) refl refl
+refusals m (call.Lines l) = powers (m .powered) true ∙ on-off (m .powered) (call.Lines l) refl refl
+refusals m (call.Sample s) = powers (m .powered) (acceptable (s .temperature)) ∙ on-off (m .powered) (call.Sample s) refl refl

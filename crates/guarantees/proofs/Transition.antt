@@ -41,8 +41,8 @@ use Rattle.alarms.specs.declared.Lines.{Lines}
 use Rattle.xenpak.specs.Frame.{moduleAfter, frame}
 use Rattle.xenpak.specs.Calls as calls
 use Rattle.calls.specs.Calls.{step}
-use Rattle.xenpak.specs.Calls.{accepted, refused, taken, withPower, tickBy}
-use Rattle.answers.specs.declared.Refusal.the-variants.{PoweredOn}
+use Rattle.xenpak.specs.Calls.{taken, withPower, tickBy}
+use Rattle.answers.specs.Answers.{powerOnAnswer, callAnswer}
 use Rattle.calls.specs.declared.Call.{Call}
 use Rattle.calls.specs.declared.Call.the-variants as call
 use Rattle.xenpak.specs.declared.Module.{Module}
@@ -157,21 +157,21 @@ unfolding step stepRef stepLog stepEvent onRef offRef onLog onEvent offEvent cal
 transition m h call.PowerOn = go (m .powered)
   where
     go : (b : Bool)
-        → Transition m (cond b (refused PoweredOn m) (accepted (calls.started alarms.noAlarms (withPower true (m .store) m))) .next)
+        → Transition m (taken (powerOnAnswer b) m (calls.started alarms.noAlarms (withPower true (m .store) m)) .next)
         (cond b (referenceOf m) (started (referenceOf m))) (cond b [] []) (cond b nothing poweredOn)
     go true = unchanged refl
     go false = powering
-transition m h (call.Cut cut) = when m (m .powered) (λ b. taken b true m (calls.afterCut m cut) .next) (λ off. refl) (λ on. cutting cut) refl
-transition m h call.ResetPin = when m (m .powered) (λ b. taken b true m (calls.started (alarms.restarted (m .alarms)) m) .next) (λ off. refl) resetting refl
+transition m h (call.Cut cut) = when m (m .powered) (λ b. taken (callAnswer b true) m (calls.afterCut m cut) .next) (λ off. refl) (λ on. cutting cut) refl
+transition m h call.ResetPin = when m (m .powered) (λ b. taken (callAnswer b true) m (calls.started (alarms.restarted (m .alarms)) m) .next) (λ off. refl) resetting refl
 transition m h (call.Frame word) =
     when m (m .powered) (λ b. moduleAfter m (cond b (requestAction (requestOf word (m .port)) (m .bus .address) (isBusy (m .job))) action.Refused))
     (λ off. refl) (λ on. on-request m on h (requestOf word (m .port))) refl
 transition m h call.Tick = when m (m .powered) (λ b. tickBy m (workOf b (m .job)) .next) (λ off. refl) (λ on. ticking) refl
-transition m h (call.Lines l) = when m (m .powered) (λ b. taken b true m (calls.lined m l) .next) (λ off. refl) (λ on. lining l) refl
+transition m h (call.Lines l) = when m (m .powered) (λ b. taken (callAnswer b true) m (calls.lined m l) .next) (λ off. refl) (λ on. lining l) refl
 transition m h (call.Sample s) =
-    when m (m .powered) (λ b. taken b (acceptable (s .temperature)) m (calls.sampled m s) .next) (λ off. refl) (λ on. go (acceptable (s .temperature))) refl
+    when m (m .powered) (λ b. taken (callAnswer b (acceptable (s .temperature))) m (calls.sampled m s) .next) (λ off. refl) (λ on. go (acceptable (s .temperature))) refl
   where
-    go : (b : Bool) → Transition m (taken true b m (calls.sampled m s) .next) (referenceOf m) [] (cond b (gotSample s) nothing)
+    go : (b : Bool) → Transition m (taken (callAnswer true b) m (calls.sampled m s) .next) (referenceOf m) [] (cond b (gotSample s) nothing)
     go true = sampling s
     go false = unchanged refl
 

@@ -2,11 +2,11 @@
 -- Assumes nothing.
 use Prim.Native.Nat.{ℕ, _%_}
 use native.Mathlib.Omega.{arith}
-use mathlib.Core.Bool.{Bool, true, false, cond}
+use mathlib.Core.Bool.{Bool, true, false}
 use mathlib.Core.List.{List, [], _∷_, _++_}
 use mathlib.Core.Path.{_≡_, refl, sym, ap, ap₂, _∙_, subst}
 use borrow.Author.Tests.{eqb-true, eq-eqb}
-use lib.Dec.{eqb, ltb, lit<, lit≤}
+use lib.Dec.{eqb, leb, lit<, lit≤}
 use lib.ListN.{length, getD, take}
 use lib.Seq.{take-take, getD-take}
 use Rattle.nvr.specs.Image.{sum, checksumRight}
@@ -16,9 +16,10 @@ use Rattle.work.specs.declared.Work.{Work}
 use Rattle.work.specs.declared.Work.the-variants as work
 use Rattle.store.specs.declared.Cut.the-variants.{Clean}
 use Rattle.thresholds.specs.Thresholds.{thresholdsOf, ordered}
-use Rattle.creation.specs.Creation.{fresh, refused, judgedBy, make}
+use Rattle.creation.specs.Creation.{fresh, blank, make}
 use Rattle.calls.specs.Calls.{step, run}
-use Rattle.xenpak.specs.Calls.{powerOn, powerCut}
+use Rattle.xenpak.specs.Calls.{accepted, taken, powerOn, powerCut}
+use Rattle.answers.specs.Answers.{makingAnswer}
 use Rattle.answers.specs.declared.Refusal.{Refusal}
 use Rattle.answers.specs.declared.Refusal.the-variants.{Port, ImageLength, ThresholdsLength, Checksum, ThresholdOrder}
 use Rattle.answers.specs.declared.Answer.{Answer}
@@ -30,19 +31,14 @@ use Rattle.xenpak.specs.declared.Outcome.{Outcome}
 use Rattle.guarantees.specs.Reference.{Reference, initial, reference, none, zeroControls, runRef}
 use Rattle.guarantees.specs.BurnLog.{Entry, burnLog, applied}
 use Rattle.guarantees.specs.History.{Event, stepEvent, events}
-use Rattle.xenpak.specs.Calls.{accepted}
 use Rattle.guarantees.specs.Guarantees.{answers, sights, alarmLines, linesByHistory, powerCycle, TwoRuns, Demand3, AlarmRegisters, AlarmsByHistory}
 use Rattle.guarantees.proofs.Transition.{referenceOf, JobSound, zeros-are, Fixed, fixedOf, step-ref, step-fixed}
 use Rattle.guarantees.proofs.Store.{no-job-sound, step-sound, run-store, AllCustomer, log-customer, applied-length, applied-elsewhere, applied-front}
 use Rattle.guarantees.proofs.Alarms.{AlarmsSound, no-alarms, step-alarms, alarm-registers, run-lines}
 
 -- ---- making
-abbrev judgement : (port image thresholds sum order : Bool) → Module → Outcome
-judgement port image thresholds sum order m =
-    cond port (refused Port) (cond image (cond thresholds (judgedBy sum order m) (refused ThresholdsLength)) (refused ImageLength))
-
 record Conditions (port image thresholds sum order : Bool) (m a : Module) : Type 0 where
-  low : port ≡ false
+  low : port ≡ true
   size : image ≡ true
   table : thresholds ≡ true
   right : sum ≡ true
@@ -53,17 +49,17 @@ abbrev mark : Answer → ℕ
 mark Accepted = 0
 mark (Refused why) = 1
 
-not-refused : (why : Refusal) {a : Module} {A : Type 0} → refused why ≡ accepted a → A
+not-refused : (why : Refusal) {n a : Module} {A : Type 0} → taken (Refused why) n n ≡ accepted a → A
 not-refused why e = absurd (let z : _≡_ {A = ℕ} 1 0 = ap (λ (o : Outcome). mark (o .answer)) e in omega arith)
 
 -- it accepts only under its five conditions
-conditions : (p i t c o : Bool) {m a : Module} → judgement p i t c o m ≡ accepted a → Conditions p i t c o m a
-conditions true i t c o e = not-refused Port e
-conditions false false t c o e = not-refused ImageLength e
-conditions false true false c o e = not-refused ThresholdsLength e
-conditions false true true false o e = not-refused Checksum e
-conditions false true true true false e = not-refused ThresholdOrder e
-conditions false true true true true e =
+conditions : (p i t c o : Bool) {m a : Module} → taken (makingAnswer p i t c o) blank m ≡ accepted a → Conditions p i t c o m a
+conditions false i t c o e = not-refused Port e
+conditions true false t c o e = not-refused ImageLength e
+conditions true true false c o e = not-refused ThresholdsLength e
+conditions true true true false o e = not-refused Checksum e
+conditions true true true true false e = not-refused ThresholdOrder e
+conditions true true true true true e =
     record { low = refl; size = refl; table = refl; right = refl; ordered = refl; same = ap (λ (o : Outcome). o .next) e }
 
 -- the checksum goes by the first 119 bytes
@@ -149,7 +145,7 @@ module _ (p : ℕ) (image t : List ℕ) (cs : List Call) where
   same-start : run a (cs ++ powerCycle (run a cs)) ≡ run b (PowerOn ∷ [])
   same-start = run-append a cs (powerCycle (run a cs)) ∙ power-cycle (run a cs) ∙ ap₂ startFrom (run-fixed a no-job-sound cs) store-is
 
-  two-runs : Conditions (ltb 31 p) (eqb (length image) 256) (eqb (length t) 40) (checksumRight image) (ordered (thresholdsOf t)) a a
+  two-runs : Conditions (leb p 31) (eqb (length image) 256) (eqb (length t) 40) (checksumRight image) (ordered (thresholdsOf t)) a a
       → TwoRuns p image t a cs
   unfolding make
   two-runs ok =
@@ -175,13 +171,13 @@ whole k = record { low = k .low; size = k .size; table = k .table; right = k .ri
 pub demand3 : Demand3
 unfolding make
 demand3 p image t a cs e =
-    let ok = conditions (ltb 31 p) (eqb (length image) 256) (eqb (length t) 40) (checksumRight image) (ordered (thresholdsOf t)) e in
+    let ok = conditions (leb p 31) (eqb (length image) 256) (eqb (length t) 40) (checksumRight image) (ordered (thresholdsOf t)) e in
     subst (λ (m : Module). TwoRuns p image t m cs) (ok .same) (two-runs p image t cs (whole ok))
 
 pub alarms-by-history : AlarmsByHistory
 unfolding make
 alarms-by-history p image t a cs e =
-    let ok = conditions (ltb 31 p) (eqb (length image) 256) (eqb (length t) 40) (checksumRight image) (ordered (thresholdsOf t)) e in
+    let ok = conditions (leb p 31) (eqb (length image) 256) (eqb (length t) 40) (checksumRight image) (ordered (thresholdsOf t)) e in
     subst (λ (m : Module). run m cs .powered ≡ true → AlarmRegisters t (run m cs) (runRef p (initial image) cs) (events p (initial image) [] cs)) (ok .same) fresh-registers
   where
     fresh-registers : run (fresh p image t) cs .powered ≡ true → AlarmRegisters t (run (fresh p image t) cs) (runRef p (initial image) cs) (events p (initial image) [] cs)

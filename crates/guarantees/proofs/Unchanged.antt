@@ -2,7 +2,7 @@
 -- Assumes nothing.
 use Prim.Native.Nat.{ℕ}
 use native.Mathlib.Omega.{arith}
-use mathlib.Core.Bool.{Bool, true, false, cond}
+use mathlib.Core.Bool.{Bool, true, false}
 use mathlib.Core.Logic.{_≢_}
 use mathlib.Core.Path.{_≡_, refl, ap}
 use Rattle.action.specs.Action.{actionOf}
@@ -15,11 +15,11 @@ use Rattle.work.specs.declared.Work.the-variants as work
 use Rattle.dom.specs.Codes.{acceptable}
 use Rattle.calls.specs.Calls.{said, step}
 use Rattle.xenpak.specs.Frame.{frame, moduleAfter}
-use Rattle.answers.specs.Answers.{frameAnswer}
+use Rattle.answers.specs.Answers.{powerOnAnswer, callAnswer, frameAnswer}
 use Rattle.store.specs.Bytes.{tickAnswer}
 use Rattle.xenpak.specs.Calls as calls
-use Rattle.xenpak.specs.Calls.{accepted, refused, taken, tickBy}
-use Rattle.answers.specs.declared.Refusal.the-variants.{PoweredOn}
+use Rattle.xenpak.specs.Calls.{kept, tickBy}
+use Rattle.answers.specs.declared.Answer.{Answer}
 use Rattle.answers.specs.declared.Answer.the-variants as plain
 use Rattle.answers.specs.declared.FrameAnswer.the-variants as frame-answer
 use Rattle.answers.specs.declared.TickAnswer.the-variants as tick-answer
@@ -65,25 +65,19 @@ by-tick m work.Nothing e = not-so e
 by-tick m (work.Load offset) e = not-so e
 by-tick m (work.Burn offset) e = not-so e
 
-by-power : (m n : Module) (b right : Bool) → leaves (Plain (taken b right m n .answer)) ≡ true → taken b right m n .next ≡ m
-by-power m n true true e = not-so e
-by-power m n true false e = refl
-by-power m n false right e = refl
+by-answer : (m n : Module) (a : Answer) → leaves (Plain a) ≡ true → kept a m n ≡ m
+by-answer m n plain.Accepted e = not-so e
+by-answer m n (plain.Refused why) e = refl
 
 unchanged : (m : Module) (c : Call) → leaves (step m c .answer) ≡ true → step m c .next ≡ m
 unfolding step calls.powerOn calls.powerCut calls.resetPin calls.tick calls.lines calls.sample frame
-unchanged m call.PowerOn e = go (m .powered) _ e
-  where
-    go : (b : Bool) (n : Module) → leaves (Plain (cond b (refused PoweredOn m) (accepted n) .answer)) ≡ true
-        → cond b (refused PoweredOn m) (accepted n) .next ≡ m
-    go true n e = refl
-    go false n e = not-so e
-unchanged m (call.Cut cut) e = by-power m _ (m .powered) true e
-unchanged m call.ResetPin e = by-power m _ (m .powered) true e
+unchanged m call.PowerOn e = by-answer m _ (powerOnAnswer (m .powered)) e
+unchanged m (call.Cut cut) e = by-answer m _ (callAnswer (m .powered) true) e
+unchanged m call.ResetPin e = by-answer m _ (callAnswer (m .powered) true) e
 unchanged m (call.Frame word) e = by-frame m (actionOf (m .powered) (m .port) (m .bus .address) (isBusy (m .job)) word) _ e
 unchanged m call.Tick e = by-tick m (workOf (m .powered) (m .job)) e
-unchanged m (call.Lines l) e = by-power m _ (m .powered) true e
-unchanged m (call.Sample s) e = by-power m _ (m .powered) (acceptable (s .temperature)) e
+unchanged m (call.Lines l) e = by-answer m _ (callAnswer (m .powered) true) e
+unchanged m (call.Sample s) e = by-answer m _ (callAnswer (m .powered) (acceptable (s .temperature))) e
 
 refused-leaves : (a : CallAnswer) → said a .refusal ≢ 0 → leaves a ≡ true
 refused-leaves (Plain plain.Accepted) f = absurd (f refl)

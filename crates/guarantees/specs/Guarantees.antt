@@ -5,7 +5,7 @@ use mathlib.Core.Bool.{Bool, true, false, cond}
 use mathlib.Core.List.{List, [], _∷_, _++_}
 use mathlib.Core.Logic.{_≢_}
 use mathlib.Core.Path.{_≡_}
-use lib.Dec.{eqb, ltb}
+use lib.Dec.{eqb, leb}
 use lib.ListN.{length, getD, replicate}
 use Rattle.words.specs.Words.{bit}
 use Rattle.registers.specs.declared.Register.the-variants.{Status, Flags}
@@ -119,10 +119,11 @@ AlarmsByHistory = (port : ℕ) (image thresholds : List ℕ) (a : Module) (calls
 -- demand 1: making refuses by the lowest of numbers 1 to 5 that applies, 0 if none does, and then gives the blank module
 abbrev pub makeRefusal : ℕ → List ℕ → List ℕ → ℕ
 makeRefusal port image thresholds =
-    cond (ltb 31 port) 1
+    cond (leb port 31)
     (cond (eqb (length image) 256)
     (cond (eqb (length thresholds) 40) (cond (checksumRight image) (cond (ordered (thresholdsOf thresholds)) 0 5) 4) 3)
     2)
+    1
 
 pub record MakeRefuses (port : ℕ) (image thresholds : List ℕ) : Type 0 where
   pub number : saidPlain (make port image thresholds .answer) .refusal ≡ makeRefusal port image thresholds

@@ -1,7 +1,7 @@
 -- Each call's answer, and the record after it. Document 01, "The record and its calls", "Load, burn, cut" and "Alarms".
 -- Assumes nothing.
 use Prim.Native.Nat.{ℕ}
-use mathlib.Core.Bool.{Bool, true, false, cond}
+use mathlib.Core.Bool.{Bool, true, false}
 use mathlib.Core.List.{List}
 use Rattle.jobs.specs.Job.{firstLoad}
 use Rattle.work.specs.Work.{workOf, afterWork}
@@ -18,9 +18,9 @@ use Rattle.monitor.specs.declared.Monitor.{Monitor}
 use Rattle.alarms.specs.Alarms.{noAlarms, restarted, afterLines, afterSample}
 use Rattle.alarms.specs.declared.Alarms.{Alarms}
 use Rattle.alarms.specs.declared.Lines.{Lines}
+use Rattle.answers.specs.Answers.{powerOnAnswer, callAnswer}
+use Rattle.answers.specs.declared.Answer.{Answer}
 use Rattle.answers.specs.declared.Answer.the-variants.{Accepted, Refused}
-use Rattle.answers.specs.declared.Refusal.{Refusal}
-use Rattle.answers.specs.declared.Refusal.the-variants.{Temperature, PoweredOff, PoweredOn}
 use Rattle.xenpak.specs.declared.Module.{Module}
 use Rattle.xenpak.specs.declared.Outcome.{Outcome}
 use Rattle.xenpak.specs.declared.TickOutcome.{TickOutcome}
@@ -29,12 +29,13 @@ abbrev pub accepted : Module → Outcome
 accepted m = record { next = m; answer = Accepted }
 
 -- a refusal gives the record unchanged
-abbrev pub refused : Refusal → Module → Outcome
-refused why m = record { next = m; answer = Refused why }
+abbrev pub kept : Answer → Module → Module → Module
+kept Accepted m next = next
+kept (Refused why) m next = m
 
--- a call that needs power and right arguments, and would leave the record `next`: 7 precedes 6
-abbrev pub taken : Bool → Bool → Module → Module → Outcome
-taken powered right m next = cond powered (cond right (accepted next) (refused Temperature m)) (refused PoweredOff m)
+-- a call with this answer, which would leave the record `next`
+abbrev pub taken : Answer → Module → Module → Outcome
+taken answer m next = record { next = kept answer m next; answer = answer }
 
 -- ---- starts
 -- what power-on and reset share: a first load, with copy, address, last sample, held byte and counter at zero
@@ -67,19 +68,20 @@ withPower powered store m =
       monitor = m .monitor;
     }
 
--- power-on also zeroes the lines; 8: it is powered
+-- power-on also zeroes the lines
 unfoldable pub powerOn : Module → Outcome
-powerOn m = cond (m .powered) (refused PoweredOn m) (accepted (started noAlarms (withPower true (m .store) m)))
+powerOn m = taken (powerOnAnswer (m .powered)) m (started noAlarms (withPower true (m .store) m))
 
+-- a reset keeps them
 unfoldable pub resetPin : Module → Outcome
-resetPin m = taken (m .powered) true m (started (restarted (m .alarms)) m)
+resetPin m = taken (callAnswer (m .powered) true) m (started (restarted (m .alarms)) m)
 
 -- ---- cut: the power goes; the other fields keep their values
 abbrev pub afterCut : Module → Cut → Module
 afterCut m cut = withPower false (tornStore (m .store) (workOf true (m .job)) cut) m
 
 unfoldable pub powerCut : Module → Cut → Outcome
-powerCut m cut = taken (m .powered) true m (afterCut m cut)
+powerCut m cut = taken (callAnswer (m .powered) true) m (afterCut m cut)
 
 -- ---- tick
 abbrev pub tickBy : Module → Work → TickOutcome
@@ -122,12 +124,11 @@ abbrev pub lined : Module → Lines → Module
 lined m l = withAlarms (afterLines (m .alarms) l) (m .monitor) m
 
 unfoldable pub lines : Module → Lines → Outcome
-lines m l = taken (m .powered) true m (lined m l)
+lines m l = taken (callAnswer (m .powered) true) m (lined m l)
 
 abbrev pub sampled : Module → Sample → Module
 sampled m s =
     withAlarms (afterSample (m .alarms) (flagsOf (thresholdsOf (m .thresholds)) s)) (sampledMonitor s (m .monitor)) m
 
--- 6: temperature out of range
 unfoldable pub sample : Module → Sample → Outcome
-sample m s = taken (m .powered) (acceptable (s .temperature)) m (sampled m s)
+sample m s = taken (callAnswer (m .powered) (acceptable (s .temperature))) m (sampled m s)

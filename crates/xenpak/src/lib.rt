@@ -8,11 +8,9 @@ use alarms::Alarms;
 use alarms::Lines;
 use answers::Answer;
 use answers::FrameAnswer;
-use answers::Refusal;
 use answers::TickAnswer;
 use bus::Bus;
 use dom::Sample;
-use dom::acceptable;
 use flags::flags_of;
 use jobs::Job;
 use monitor::Monitor;
@@ -54,27 +52,21 @@ pub struct TickOutcome {
     pub answer: TickAnswer,
 }
 
-// Every call but power-on is refused with 7 when the module is off.
+// Every call but power-on is refused with 7 when the module is off; a refused call hands the record back as it was.
 impl Module {
-    // A call that would leave the record `next`: refused with 7 when off, then with 6 when its temperature is not right.
-    fn taken(self, right: bool, next: Module) -> Outcome
-        ensures { λ r. ⌜ r ≡ taken (self .powered) right self next ⌝ }
+    // What a call leaves: the record `next` where it is accepted, this one where it is refused.
+    pub fn taken(self, answer: Answer, next: Module) -> Outcome
+        ensures { λ r. ⌜ r ≡ taken answer self next ⌝ }
     {
-        if self.powered {
-            if right {
-                return Outcome {
-                    next: next,
-                    answer: Answer::Accepted,
-                };
-            }
-            return Outcome {
+        match answer {
+            Answer::Accepted => Outcome {
+                next: next,
+                answer: answer,
+            },
+            Answer::Refused(_) => Outcome {
                 next: self,
-                answer: Answer::Refused(Refusal::Temperature),
-            };
-        }
-        Outcome {
-            next: self,
-            answer: Answer::Refused(Refusal::PoweredOff),
+                answer: answer,
+            },
         }
     }
 
@@ -102,18 +94,10 @@ impl Module {
     pub fn power_on(mut self) -> Outcome
         ensures { λ r. ⌜ r ≡ powerOn self ⌝ }
     {
-        if self.powered {
-            return Outcome {
-                next: self,
-                answer: Answer::Refused(Refusal::PoweredOn),
-            };
-        }
+        let before = self;
         self.powered = true;
-        let next = self.started(Alarms::NONE);
-        Outcome {
-            next: next,
-            answer: Answer::Accepted,
-        }
+        let on = self.started(Alarms::NONE);
+        before.taken(Answer::to_power_on(before.powered), on)
     }
 
     // The reset pin: the first load starts, and the lines are kept.
@@ -122,7 +106,7 @@ impl Module {
     {
         let alarms = self.alarms;
         let reset = self.started(alarms.restarted());
-        self.taken(true, reset)
+        self.taken(Answer::to_call(self.powered, true), reset)
     }
 
     // The power goes; a torn cut (document 01: struck) leaves its byte where a burn is due.
@@ -135,7 +119,7 @@ impl Module {
         tear(&mut store, work_of(job, true), cut);
         self.store = store;
         self.powered = false;
-        before.taken(true, self)
+        before.taken(Answer::to_call(before.powered, true), self)
     }
 
     // One byte of the job, if one is due.
@@ -164,7 +148,7 @@ impl Module {
         let before = self;
         let alarms = self.alarms;
         self.alarms = alarms.lines(given);
-        before.taken(true, self)
+        before.taken(Answer::to_call(before.powered, true), self)
     }
 
     // The monitor reports a sample; one out of range is refused with 6.
@@ -178,7 +162,7 @@ impl Module {
         let monitor = self.monitor;
         self.alarms = alarms.sampled(flags);
         self.monitor = monitor.sampled(given);
-        before.taken(acceptable(given.temperature), self)
+        before.taken(Answer::to_call(before.powered, given.acceptable()), self)
     }
 
     // Each part after a frame.

@@ -1,26 +1,48 @@
--- `creation::make` meets its contract.
+-- `creation::make` meets its contract: what is refused by its length is judged by nothing else.
 -- Assumes nothing.
-use Rattle.creation.specs.Creation.{make}
-use borrow.Author.Tests.{ne-eqb}
-use borrow.Author.Tests.{lt-ltb}
-use borrow.Author.Tests.{le-ltb}
-use borrow.Author.Tests.{eq-eqb}
+use Prim.Native.Nat.{ℕ}
+use mathlib.Core.Bool.{Bool, true, false, cond}
+use mathlib.Core.List.{List}
+use mathlib.Core.Path.{_≡_, refl}
+use lib.Dec.{eqb, leb}
+use lib.ListN.{length}
 use borrow.Author.Needs.{needs}
+use Rattle.nvr.specs.Image.{checksumRight}
+use Rattle.store.specs.Bytes.{zeros}
+use Rattle.thresholds.specs.Thresholds.{thresholdsOf, ordered}
+use Rattle.answers.specs.Answers.{makingAnswer}
+use Rattle.xenpak.specs.Calls.{taken}
+use Rattle.xenpak.specs.declared.Outcome.{Outcome}
+use Rattle.creation.specs.Creation.{fresh, blank, make}
 use Rattle.creation.proofs.make.Statement.{statement}
 use Rattle.creation.proofs.make.Tie as tie
 
+made : ℕ → Bool → Bool → Bool → List ℕ → List ℕ → Outcome
+made port low whole table image thresholds =
+    taken (makingAnswer low whole table (checksumRight image) (ordered (thresholdsOf thresholds))) blank (fresh port image thresholds)
+
+by-length : (port : ℕ) (low whole table : Bool) (image thresholds s t : List ℕ)
+    → made port low whole table (cond whole image s) (cond table thresholds t) ≡ made port low whole table image thresholds
+unfolding made
+by-length port false whole table image thresholds s t = refl
+by-length port true false table image thresholds s t = refl
+by-length port true true false image thresholds s t = refl
+by-length port true true true image thresholds s t = refl
+
 pub make-spec : {M : Type 1} → statement M
-unfolding make
+unfolding make zeros made
 make-spec =
     tie.close
     (tie.spec
+    (λ c. search needs)
     (λ c κs. search needs)
-    (λ c. rw (c .refused .ensures, lt-ltb _ _ (c .before .if1 .taken)))
-    (λ c κs. search needs)
-    (λ c. rw (c .refused2 .ensures, ne-eqb _ _ (c .before .if2 .taken), le-ltb _ _ (c .before .before .if1 .left)))
-    (λ c κs. search needs)
-    (λ c. rw (c .refused3 .ensures, ne-eqb _ _ (c .before .if3 .taken), eq-eqb _ _ (c .before .before .if2 .left), le-ltb _ _ (c .before .before .before .if1 .left)))
+    (λ c. search needs)
     (λ c κs. search needs)
     (λ c κs. search needs)
     (λ c κs. search needs)
-    (λ c. rw (c .judged .ensures, c .before .bytes40 .ensures, c .before .before .bytes256 .ensures, eq-eqb _ _ (c .before .before .before .if3 .left), eq-eqb _ _ (c .before .before .before .before .if2 .left), le-ltb _ _ (c .before .before .before .before .before .if1 .left))))
+    (λ c κs. search needs)
+    (λ c κs. search needs)
+    (λ c κs. search needs)
+    (λ c κs. search needs)
+    (λ c κs. search needs)
+    (λ c. rw (c .taken .ensures, c .before .fresh2 .ensures, c .before .before .fresh .ensures, c .before .before .before .to-making .ensures, c .before .before .before .before .ordered .ensures, c .before .before .before .before .before .thresholds-of .ensures, c .before .before .before .before .before .before .before .checksum-right .ensures, c .before .before .before .before .before .before .before .before .before .before .copied2 .ensures .bytes, c .before .before .before .before .before .before .before .before .before .before .copied2 .ensures .fits, c .before .before .before .before .before .before .before .before .before .before .before .before .before .copied .ensures .bytes, c .before .before .before .before .before .before .before .before .before .before .before .before .before .copied .ensures .fits) (by-length (c .before .before .before .before .before .before .before .before .before .before .before .before .before .before .before .before .before .args .port) (leb (c .before .before .before .before .before .before .before .before .before .before .before .before .before .before .before .before .before .args .port) 31) (eqb (length (c .before .before .before .before .before .before .before .before .before .before .before .before .before .before .before .before .before .args .image .now)) 256) (eqb (length (c .before .before .before .before .before .before .before .before .before .before .before .before .before .before .before .before .before .args .thresholds .now)) 40) (c .before .before .before .before .before .before .before .before .before .before .before .before .before .before .before .before .before .args .image .now) (c .before .before .before .before .before .before .before .before .before .before .before .before .before .before .before .before .before .args .thresholds .now) (zeros 256) (zeros 40))))

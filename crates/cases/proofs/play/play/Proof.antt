@@ -1,4 +1,4 @@
--- `cases::play::play` is safe and ends: the loop goes through the steps.
+-- `cases::play::play` is safe and ends: the loop goes through the sheet's bytes.
 -- Assumes nothing.
 use Prim.Native.Nat.{_≤_, _-_}
 use borrow.Author.Needs.{needs}
@@ -7,10 +7,10 @@ use Rattle.cases.proofs.play.play.Statement.{statement}
 use Rattle.cases.proofs.play.play.Tie as tie
 
 abbrev Inv-loop : tie.InvT-loop
-Inv-loop name steps m₀ i₀ t5 m i = i ≤ length steps
+Inv-loop sheet m₀ marked₀ parts₀ step₀ i₀ m marked parts step i = i ≤ length sheet
 
 abbrev μ-loop : tie.MeasureT-loop
-μ-loop name steps m₀ i₀ t5 m i = length steps - i
+μ-loop sheet m₀ marked₀ parts₀ step₀ i₀ m marked parts step i = length sheet - i
 
 pub play-spec : {M : Type 1} → statement M
 play-spec =
@@ -19,14 +19,15 @@ play-spec =
     Inv-loop
     μ-loop
     (λ c κs. search needs)
+    (λ c. search needs)
+    (λ c. search needs)
+    (λ c κs. search needs)
+    (λ c κs. search needs)
+    (λ c κs. search needs)
+    (λ c κs. search needs)
+    (λ c. search needs)
     (λ c κs. search needs)
     (λ c. search needs)
     (λ c. search needs)
     (λ c. search needs)
-    (λ c κs. search needs)
-    (λ c. search needs)
-    (λ c. search needs)
-    (λ c. search needs)
-    (λ c. search needs)
-    (λ c κs. search needs)
     (λ c. search needs))

@@ -12,4 +12,5 @@ lines-spec =
     (tie.spec
     (λ c κs. search needs)
     (λ c κs. search needs)
-    (λ c. rw (c .taken .ensures, c .before .lines .ensures)))
+    (λ c κs. search needs)
+    (λ c. rw (c .taken .ensures, c .before .to-call .ensures, c .before .before .lines .ensures)))

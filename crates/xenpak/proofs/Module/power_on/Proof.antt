@@ -10,6 +10,7 @@ unfolding powerOn
 power-on-spec =
     tie.close
     (tie.spec
-    (λ c. rw (c .if1 .taken))
     (λ c κs. search needs)
-    (λ c. rw (c .started .ensures, c .before .if1 .left)))
+    (λ c κs. search needs)
+    (λ c κs. search needs)
+    (λ c. rw (c .taken .ensures, c .before .to-power-on .ensures, c .before .before .started .ensures)))

@@ -13,4 +13,5 @@ reset-pin-spec =
     (λ c κs. search needs)
     (λ c κs. search needs)
     (λ c κs. search needs)
-    (λ c. rw (c .taken .ensures, c .before .started .ensures, c .before .before .restarted .ensures)))
+    (λ c κs. search needs)
+    (λ c. rw (c .taken .ensures, c .before .to-call .ensures, c .before .before .started .ensures, c .before .before .before .restarted .ensures)))
