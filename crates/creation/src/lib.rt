@@ -1,6 +1,7 @@
 // Making a module from its port, image and thresholds.
 ghost use mathlib.Core.Path.{_≡_};
-ghost use Rattle.creation.specs.Creation.{Copied, fresh, make};
+ghost use Rattle.xenpak.specs.Calls.{taken};
+ghost use Rattle.creation.specs.Creation.{Copied, fresh, blank, make};
 use alarms::Alarms;
 use answers::Answer;
 use bus::Bus;
@@ -44,7 +45,23 @@ fn fresh(port: u8, store: [u8; 256], thresholds: [u8; 40]) -> Module
     }
 }
 
-// A fresh module; refused, the blank module: port 0, all bytes zero, off.
+// The module made; refused, the blank one: port 0, all bytes zero, off.
+fn made(answer: Answer, next: Module) -> Outcome
+    ensures { λ r. ⌜ r ≡ taken answer blank next ⌝ }
+{
+    match answer {
+        Answer::Accepted => Outcome {
+            next: next,
+            answer: answer,
+        },
+        Answer::Refused(_) => Outcome {
+            next: fresh(0, [0; 256], [0; 40]),
+            answer: answer,
+        },
+    }
+}
+
+// A fresh module; refused by the lowest number that applies, the blank one.
 pub fn make(port: u8, image: &[u8], thresholds: &[u8]) -> Outcome
     ensures { λ r. ⌜ r ≡ make port (now (image .entry)) (now (thresholds .entry)) ⌝ }
 {
@@ -55,6 +72,5 @@ pub fn make(port: u8, image: &[u8], thresholds: &[u8]) -> Outcome
     let right = checksum_right(&store);
     let in_order = ordered(thresholds_of(&codes));
     let answer = Answer::to_making(port <= 31, whole, table, right, in_order);
-    let blank = fresh(0, [0; 256], [0; 40]);
-    blank.taken(answer, fresh(port, store, codes))
+    made(answer, fresh(port, store, codes))
 }

@@ -55,7 +55,7 @@ pub struct TickOutcome {
 // Every call but power-on is refused with 7 when the module is off; a refused call hands the record back as it was.
 impl Module {
     // What a call leaves: the record `next` where it is accepted, this one where it is refused.
-    pub fn taken(self, answer: Answer, next: Module) -> Outcome
+    fn taken(self, answer: Answer, next: Module) -> Outcome
         ensures { λ r. ⌜ r ≡ taken answer self next ⌝ }
     {
         match answer {

@@ -44,5 +44,4 @@ make-spec =
     (λ c κs. search needs)
     (λ c κs. search needs)
     (λ c κs. search needs)
-    (λ c κs. search needs)
-    (λ c. rw (c .taken .ensures, c .before .fresh2 .ensures, c .before .before .fresh .ensures, c .before .before .before .to-making .ensures, c .before .before .before .before .ordered .ensures, c .before .before .before .before .before .thresholds-of .ensures, c .before .before .before .before .before .before .before .checksum-right .ensures, c .before .before .before .before .before .before .before .before .before .before .copied2 .ensures .bytes, c .before .before .before .before .before .before .before .before .before .before .copied2 .ensures .fits, c .before .before .before .before .before .before .before .before .before .before .before .before .before .copied .ensures .bytes, c .before .before .before .before .before .before .before .before .before .before .before .before .before .copied .ensures .fits) (by-length (c .before .before .before .before .before .before .before .before .before .before .before .before .before .before .before .before .before .args .port) (leb (c .before .before .before .before .before .before .before .before .before .before .before .before .before .before .before .before .before .args .port) 31) (eqb (length (c .before .before .before .before .before .before .before .before .before .before .before .before .before .before .before .before .before .args .image .now)) 256) (eqb (length (c .before .before .before .before .before .before .before .before .before .before .before .before .before .before .before .before .before .args .thresholds .now)) 40) (c .before .before .before .before .before .before .before .before .before .before .before .before .before .before .before .before .before .args .image .now) (c .before .before .before .before .before .before .before .before .before .before .before .before .before .before .before .before .before .args .thresholds .now) (zeros 256) (zeros 40))))
+    (λ c. rw (c .made .ensures, c .before .fresh .ensures, c .before .before .to-making .ensures, c .before .before .before .ordered .ensures, c .before .before .before .before .thresholds-of .ensures, c .before .before .before .before .before .before .checksum-right .ensures, c .before .before .before .before .before .before .before .before .before .copied2 .ensures .bytes, c .before .before .before .before .before .before .before .before .before .copied2 .ensures .fits, c .before .before .before .before .before .before .before .before .before .before .before .before .copied .ensures .bytes, c .before .before .before .before .before .before .before .before .before .before .before .before .copied .ensures .fits) (by-length (c .before .before .before .before .before .before .before .before .before .before .before .before .before .before .before .before .args .port) (leb (c .before .before .before .before .before .before .before .before .before .before .before .before .before .before .before .before .args .port) 31) (eqb (length (c .before .before .before .before .before .before .before .before .before .before .before .before .before .before .before .before .args .image .now)) 256) (eqb (length (c .before .before .before .before .before .before .before .before .before .before .before .before .before .before .before .before .args .thresholds .now)) 40) (c .before .before .before .before .before .before .before .before .before .before .before .before .before .before .before .before .args .image .now) (c .before .before .before .before .before .before .before .before .before .before .before .before .before .before .before .before .args .thresholds .now) (zeros 256) (zeros 40))))
