@@ -65,10 +65,10 @@ saidSettle (settle.Ticks count) = says 0 (count ∷ [])
 saidSettle (settle.Refused why) = refusedWith why
 
 -- ---- which answer a call gets
--- making, by whether port, image length, thresholds length, checksum and thresholds' order are right: 1 to 5, the lowest
--- number first
-abbrev pub makingAnswer : (port image thresholds checksum ordered : Bool) → Answer
-makingAnswer port image thresholds checksum ordered =
+-- creation (document 01: making), by whether port, image length, thresholds length, checksum and thresholds' order are
+-- right: 1 to 5, the lowest number first
+abbrev pub creationAnswer : (port image thresholds checksum ordered : Bool) → Answer
+creationAnswer port image thresholds checksum ordered =
     cond (not port) (plain.Refused Port)
     (cond (not image) (plain.Refused ImageLength)
     (cond (not thresholds) (plain.Refused ThresholdsLength)

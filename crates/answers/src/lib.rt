@@ -1,6 +1,6 @@
 // What each call answers.
 ghost use mathlib.Core.Path.{_≡_};
-ghost use Rattle.answers.specs.Answers.{makingAnswer, powerOnAnswer, callAnswer, frameAnswer};
+ghost use Rattle.answers.specs.Answers.{creationAnswer, powerOnAnswer, callAnswer, frameAnswer};
 use action::Action;
 
 // Why a call is refused; `refusalNumber` in specs/ has document 01's number of each.
@@ -45,16 +45,16 @@ pub enum SettleAnswer {
 }
 
 impl Answer {
-    // Of making, by whether the port, the lengths of image and thresholds, the checksum and the thresholds' order are
-    // right: refusals 1 to 5, the lowest first.
-    pub fn to_making(
+    // Of creation (document 01: making), by whether port, lengths of image and thresholds, checksum and order of the
+    // thresholds are right: refusals 1 to 5, the lowest first.
+    pub fn to_creation(
         port: bool,
         image: bool,
         thresholds: bool,
         checksum: bool,
         ordered: bool,
     ) -> Answer
-        ensures { λ r. ⌜ r ≡ makingAnswer port image thresholds checksum ordered ⌝ }
+        ensures { λ r. ⌜ r ≡ creationAnswer port image thresholds checksum ordered ⌝ }
     {
         if !port {
             return Answer::Refused(Refusal::Port);

@@ -13,7 +13,7 @@ use Rattle.thresholds.specs.Thresholds.{thresholdsOf, ordered}
 use Rattle.monitor.specs.Monitor.{noMonitor}
 use Rattle.alarms.specs.Alarms.{noAlarms}
 use Rattle.bus.specs.Bus.{noBus}
-use Rattle.answers.specs.Answers.{makingAnswer}
+use Rattle.answers.specs.Answers.{creationAnswer}
 use Rattle.xenpak.specs.Calls.{taken}
 use Rattle.xenpak.specs.declared.Module.{Module}
 use Rattle.xenpak.specs.declared.Outcome.{Outcome}
@@ -47,6 +47,6 @@ pub record Copied (from into : List ℕ) (r : Bool) (after : List ℕ) : Type 0 
 unfoldable pub make : ℕ → List ℕ → List ℕ → Outcome
 make port image thresholds =
     taken
-    (makingAnswer (leb port 31) (eqb (length image) 256) (eqb (length thresholds) 40) (checksumRight image)
+    (creationAnswer (leb port 31) (eqb (length image) 256) (eqb (length thresholds) 40) (checksumRight image)
     (ordered (thresholdsOf thresholds)))
     blank (fresh port image thresholds)

@@ -71,6 +71,6 @@ pub fn make(port: u8, image: &[u8], thresholds: &[u8]) -> Outcome
     let table = copied(thresholds, &mut codes);
     let right = checksum_right(&store);
     let in_order = ordered(thresholds_of(&codes));
-    let answer = Answer::to_making(port <= 31, whole, table, right, in_order);
+    let answer = Answer::to_creation(port <= 31, whole, table, right, in_order);
     made(answer, fresh(port, store, codes))
 }

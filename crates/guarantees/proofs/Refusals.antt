@@ -24,7 +24,7 @@ use Rattle.store.specs.Bytes.{tickAnswer}
 use Rattle.jobs.specs.declared.Job.{Job}
 use Rattle.dom.specs.Codes.{acceptable}
 use Rattle.thresholds.specs.Thresholds.{thresholdsOf, ordered}
-use Rattle.answers.specs.Answers.{saidPlain, saidFrame, saidTick, makingAnswer, powerOnAnswer, callAnswer, frameAnswer}
+use Rattle.answers.specs.Answers.{saidPlain, saidFrame, saidTick, creationAnswer, powerOnAnswer, callAnswer, frameAnswer}
 use Rattle.calls.specs.Calls.{step}
 use Rattle.xenpak.specs.Frame.{frame, valueAt}
 use Rattle.xenpak.specs.Calls as calls
@@ -38,7 +38,7 @@ use Rattle.guarantees.specs.Guarantees.{MakeRefusals, refusalBy, Refusal
 abbrev number : (port image thresholds sum order : Bool) → ℕ
 number port image thresholds sum order = cond port (cond image (cond thresholds (cond sum (cond order 0 5) 4) 3) 2) 1
 
-numbered : (p i t c o : Bool) → saidPlain (makingAnswer p i t c o) .refusal ≡ number p i t c o
+numbered : (p i t c o : Bool) → saidPlain (creationAnswer p i t c o) .refusal ≡ number p i t c o
 numbered false i t c o = refl
 numbered true false t c o = refl
 numbered true true false c o = refl
@@ -46,7 +46,7 @@ numbered true true true false o = refl
 numbered true true true true false = refl
 numbered true true true true true = refl
 
-blanked : (m : Module) (p i t c o : Bool) → number p i t c o ≢ 0 → calls.kept (makingAnswer p i t c o) blank m ≡ blank
+blanked : (m : Module) (p i t c o : Bool) → number p i t c o ≢ 0 → calls.kept (creationAnswer p i t c o) blank m ≡ blank
 blanked m false i t c o f = refl
 blanked m true false t c o f = refl
 blanked m true true false c o f = refl

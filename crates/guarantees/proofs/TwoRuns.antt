@@ -19,7 +19,7 @@ use Rattle.thresholds.specs.Thresholds.{thresholdsOf, ordered}
 use Rattle.creation.specs.Creation.{fresh, blank, make}
 use Rattle.calls.specs.Calls.{step, run}
 use Rattle.xenpak.specs.Calls.{accepted, taken, powerOn, powerCut}
-use Rattle.answers.specs.Answers.{makingAnswer}
+use Rattle.answers.specs.Answers.{creationAnswer}
 use Rattle.answers.specs.declared.Refusal.{Refusal}
 use Rattle.answers.specs.declared.Refusal.the-variants.{Port, ImageLength, ThresholdsLength, Checksum, ThresholdOrder}
 use Rattle.answers.specs.declared.Answer.{Answer}
@@ -53,7 +53,7 @@ not-refused : (why : Refusal) {n a : Module} {A : Type 0} → taken (Refused why
 not-refused why e = absurd (let z : _≡_ {A = ℕ} 1 0 = ap (λ (o : Outcome). mark (o .answer)) e in omega arith)
 
 -- it accepts only under its five conditions
-conditions : (p i t c o : Bool) {m a : Module} → taken (makingAnswer p i t c o) blank m ≡ accepted a → Conditions p i t c o m a
+conditions : (p i t c o : Bool) {m a : Module} → taken (creationAnswer p i t c o) blank m ≡ accepted a → Conditions p i t c o m a
 conditions false i t c o e = not-refused Port e
 conditions true false t c o e = not-refused ImageLength e
 conditions true true false c o e = not-refused ThresholdsLength e

@@ -10,7 +10,7 @@ use borrow.Author.Needs.{needs}
 use Rattle.nvr.specs.Image.{checksumRight}
 use Rattle.store.specs.Bytes.{zeros}
 use Rattle.thresholds.specs.Thresholds.{thresholdsOf, ordered}
-use Rattle.answers.specs.Answers.{makingAnswer}
+use Rattle.answers.specs.Answers.{creationAnswer}
 use Rattle.xenpak.specs.Calls.{taken}
 use Rattle.xenpak.specs.declared.Outcome.{Outcome}
 use Rattle.creation.specs.Creation.{fresh, blank, make}
@@ -19,7 +19,7 @@ use Rattle.creation.proofs.make.Tie as tie
 
 made : ℕ → Bool → Bool → Bool → List ℕ → List ℕ → Outcome
 made port low whole table image thresholds =
-    taken (makingAnswer low whole table (checksumRight image) (ordered (thresholdsOf thresholds))) blank (fresh port image thresholds)
+    taken (creationAnswer low whole table (checksumRight image) (ordered (thresholdsOf thresholds))) blank (fresh port image thresholds)
 
 by-length : (port : ℕ) (low whole table : Bool) (image thresholds s t : List ℕ)
     → made port low whole table (cond whole image s) (cond table thresholds t) ≡ made port low whole table image thresholds
@@ -44,4 +44,4 @@ make-spec =
     (λ c κs. search needs)
     (λ c κs. search needs)
     (λ c κs. search needs)
-    (λ c. rw (c .made .ensures, c .before .fresh .ensures, c .before .before .to-making .ensures, c .before .before .before .ordered .ensures, c .before .before .before .before .thresholds-of .ensures, c .before .before .before .before .before .before .checksum-right .ensures, c .before .before .before .before .before .before .before .before .before .copied2 .ensures .bytes, c .before .before .before .before .before .before .before .before .before .copied2 .ensures .fits, c .before .before .before .before .before .before .before .before .before .before .before .before .copied .ensures .bytes, c .before .before .before .before .before .before .before .before .before .before .before .before .copied .ensures .fits) (by-length (c .before .before .before .before .before .before .before .before .before .before .before .before .before .before .before .before .args .port) (leb (c .before .before .before .before .before .before .before .before .before .before .before .before .before .before .before .before .args .port) 31) (eqb (length (c .before .before .before .before .before .before .before .before .before .before .before .before .before .before .before .before .args .image .now)) 256) (eqb (length (c .before .before .before .before .before .before .before .before .before .before .before .before .before .before .before .before .args .thresholds .now)) 40) (c .before .before .before .before .before .before .before .before .before .before .before .before .before .before .before .before .args .image .now) (c .before .before .before .before .before .before .before .before .before .before .before .before .before .before .before .before .args .thresholds .now) (zeros 256) (zeros 40))))
+    (λ c. rw (c .made .ensures, c .before .fresh .ensures, c .before .before .to-creation .ensures, c .before .before .before .ordered .ensures, c .before .before .before .before .thresholds-of .ensures, c .before .before .before .before .before .before .checksum-right .ensures, c .before .before .before .before .before .before .before .before .before .copied2 .ensures .bytes, c .before .before .before .before .before .before .before .before .before .copied2 .ensures .fits, c .before .before .before .before .before .before .before .before .before .before .before .before .copied .ensures .bytes, c .before .before .before .before .before .before .before .before .before .before .before .before .copied .ensures .fits) (by-length (c .before .before .before .before .before .before .before .before .before .before .before .before .before .before .before .before .args .port) (leb (c .before .before .before .before .before .before .before .before .before .before .before .before .before .before .before .before .args .port) 31) (eqb (length (c .before .before .before .before .before .before .before .before .before .before .before .before .before .before .before .before .args .image .now)) 256) (eqb (length (c .before .before .before .before .before .before .before .before .before .before .before .before .before .before .before .before .args .thresholds .now)) 40) (c .before .before .before .before .before .before .before .before .before .before .before .before .before .before .before .before .args .image .now) (c .before .before .before .before .before .before .before .before .before .before .before .before .before .before .before .before .args .thresholds .now) (zeros 256) (zeros 40))))

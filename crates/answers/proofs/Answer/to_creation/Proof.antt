@@ -1,10 +1,10 @@
--- `answers::Answer::to_making` meets its contract.
+-- `answers::Answer::to_creation` meets its contract.
 -- Assumes nothing.
-use Rattle.answers.proofs.Answer.to_making.Statement.{statement}
-use Rattle.answers.proofs.Answer.to_making.Tie as tie
+use Rattle.answers.proofs.Answer.to_creation.Statement.{statement}
+use Rattle.answers.proofs.Answer.to_creation.Tie as tie
 
-pub to-making-spec : {M : Type 1} → statement M
-to-making-spec =
+pub to-creation-spec : {M : Type 1} → statement M
+to-creation-spec =
     tie.close
     (tie.spec
     (λ c. rw (c .if1 .taken))
