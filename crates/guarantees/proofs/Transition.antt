@@ -41,7 +41,7 @@ use Rattle.alarms.specs.declared.Lines.{Lines}
 use Rattle.xenpak.specs.Frame.{moduleAfter, frame}
 use Rattle.xenpak.specs.Calls as calls
 use Rattle.calls.specs.Calls.{step}
-use Rattle.xenpak.specs.Calls.{taken, withPower, tickBy}
+use Rattle.xenpak.specs.Calls.{taken, tickBy}
 use Rattle.answers.specs.Answers.{powerOnAnswer, callAnswer}
 use Rattle.calls.specs.declared.Call.{Call}
 use Rattle.calls.specs.declared.Call.the-variants as call
@@ -81,7 +81,7 @@ busy-is j h = busy-word (j .kept) (h .kept) (eqb (j .kind) 0) (h .ended)
 pub data Transition (m : Module) : Module → Reference → List Entry → Event → Type 0 where
   -- refused, silent, dropped
   unchanged : {n : Module} → n ≡ m → Transition m n (referenceOf m) [] nothing
-  powering : Transition m (calls.started alarms.noAlarms (withPower true (m .store) m)) (started (referenceOf m)) [] poweredOn
+  powering : Transition m (calls.started true alarms.noAlarms m) (started (referenceOf m)) [] poweredOn
   cutting : (cut : Cut)
       → Transition m (calls.afterCut m cut) (cutRef (referenceOf m) cut)
       (cutLog (jobRef (m .job)) cut) nothing
@@ -157,12 +157,12 @@ unfolding step stepRef stepLog stepEvent onRef offRef onLog onEvent offEvent cal
 transition m h call.PowerOn = go (m .powered)
   where
     go : (b : Bool)
-        → Transition m (taken (powerOnAnswer b) m (calls.started alarms.noAlarms (withPower true (m .store) m)) .next)
+        → Transition m (taken (powerOnAnswer b) m (calls.started true alarms.noAlarms m) .next)
         (cond b (referenceOf m) (started (referenceOf m))) (cond b [] []) (cond b nothing poweredOn)
     go true = unchanged refl
     go false = powering
 transition m h (call.Cut cut) = when m (m .powered) (λ b. taken (callAnswer b true) m (calls.afterCut m cut) .next) (λ off. refl) (λ on. cutting cut) refl
-transition m h call.ResetPin = when m (m .powered) (λ b. taken (callAnswer b true) m (calls.started (alarms.restarted (m .alarms)) m) .next) (λ off. refl) resetting refl
+transition m h call.ResetPin = when m (m .powered) (λ b. taken (callAnswer b true) m (calls.started (m .powered) (alarms.restarted (m .alarms)) m) .next) (λ off. refl) resetting refl
 transition m h (call.Frame word) =
     when m (m .powered) (λ b. moduleAfter m (cond b (requestAction (requestOf word (m .port)) (m .bus .address) (isBusy (m .job))) action.Refused))
     (λ off. refl) (λ on. on-request m on h (requestOf word (m .port))) refl

@@ -39,13 +39,13 @@ taken answer m next = record { next = kept answer m next; answer = answer }
 
 -- ---- starts
 -- what power-on and reset share: a first load, with copy, address, last sample, held byte and counter at zero
-abbrev pub started : Alarms → Module → Module
-started alarms m =
+abbrev pub started : Bool → Alarms → Module → Module
+started powered alarms m =
     record {
       store = m .store;
       job = firstLoad;
       copy = zeros 256;
-      powered = m .powered;
+      powered = powered;
       port = m .port;
       thresholds = m .thresholds;
       bus = noBus;
@@ -53,32 +53,28 @@ started alarms m =
       monitor = noMonitor;
     }
 
--- the store and the power of a module after a cut, or its power after power-on
-abbrev pub withPower : Bool → List ℕ → Module → Module
-withPower powered store m =
+-- power-on also zeroes the lines
+unfoldable pub powerOn : Module → Outcome
+powerOn m = taken (powerOnAnswer (m .powered)) m (started true noAlarms m)
+
+-- a reset keeps them
+unfoldable pub resetPin : Module → Outcome
+resetPin m = taken (callAnswer (m .powered) true) m (started (m .powered) (restarted (m .alarms)) m)
+
+-- ---- cut: the power goes; the other fields keep their values
+abbrev pub afterCut : Module → Cut → Module
+afterCut m cut =
     record {
-      store = store;
+      store = tornStore (m .store) (workOf true (m .job)) cut;
       job = m .job;
       copy = m .copy;
-      powered = powered;
+      powered = false;
       port = m .port;
       thresholds = m .thresholds;
       bus = m .bus;
       alarms = m .alarms;
       monitor = m .monitor;
     }
-
--- power-on also zeroes the lines
-unfoldable pub powerOn : Module → Outcome
-powerOn m = taken (powerOnAnswer (m .powered)) m (started noAlarms (withPower true (m .store) m))
-
--- a reset keeps them
-unfoldable pub resetPin : Module → Outcome
-resetPin m = taken (callAnswer (m .powered) true) m (started (restarted (m .alarms)) m)
-
--- ---- cut: the power goes; the other fields keep their values
-abbrev pub afterCut : Module → Cut → Module
-afterCut m cut = withPower false (tornStore (m .store) (workOf true (m .job)) cut) m
 
 unfoldable pub powerCut : Module → Cut → Outcome
 powerCut m cut = taken (callAnswer (m .powered) true) m (afterCut m cut)

@@ -70,10 +70,10 @@ impl Module {
         }
     }
 
-    // What power-on and reset share: a first load starts, with all at zero but port, store, thresholds, power and these
-    // alarms.
-    fn started(self, alarms: Alarms) -> Module
-        ensures { λ r. ⌜ r ≡ started alarms self ⌝ }
+    // What power-on and reset share: a first load starts, with all at zero but port, store, thresholds, this power and
+    // these alarms.
+    fn started(self, powered: bool, alarms: Alarms) -> Module
+        ensures { λ r. ⌜ r ≡ started powered alarms self ⌝ }
     {
         let store = self.store;
         let thresholds = self.thresholds;
@@ -81,7 +81,7 @@ impl Module {
             store: store,
             job: Job::FIRST_LOAD,
             copy: [0; 256],
-            powered: self.powered,
+            powered: powered,
             port: self.port,
             thresholds: thresholds,
             bus: Bus::ZERO,
@@ -91,13 +91,11 @@ impl Module {
     }
 
     // Power-on: the first load starts, and the lines are zero. Refused with 8 when powered.
-    pub fn power_on(mut self) -> Outcome
+    pub fn power_on(self) -> Outcome
         ensures { λ r. ⌜ r ≡ powerOn self ⌝ }
     {
-        let before = self;
-        self.powered = true;
-        let on = self.started(Alarms::NONE);
-        before.taken(Answer::to_power_on(before.powered), on)
+        let on = self.started(true, Alarms::NONE);
+        self.taken(Answer::to_power_on(self.powered), on)
     }
 
     // The reset pin: the first load starts, and the lines are kept.
@@ -105,7 +103,7 @@ impl Module {
         ensures { λ r. ⌜ r ≡ resetPin self ⌝ }
     {
         let alarms = self.alarms;
-        let reset = self.started(alarms.restarted());
+        let reset = self.started(self.powered, alarms.restarted());
         self.taken(Answer::to_call(self.powered, true), reset)
     }
 

@@ -13,7 +13,7 @@ use Rattle.thresholds.specs.Thresholds.{thresholdsOf, ordered}
 use Rattle.answers.specs.Answers.{creationAnswer}
 use Rattle.xenpak.specs.Calls.{taken}
 use Rattle.xenpak.specs.declared.Outcome.{Outcome}
-use Rattle.creation.specs.Creation.{fresh, blank, make}
+use Rattle.creation.specs.Creation.{Copied, fresh, blank, make}
 use Rattle.creation.proofs.make.Statement.{statement}
 use Rattle.creation.proofs.make.Tie as tie
 
@@ -28,6 +28,14 @@ by-length port false whole table image thresholds s t = refl
 by-length port true false table image thresholds s t = refl
 by-length port true true false image thresholds s t = refl
 by-length port true true true image thresholds s t = refl
+
+-- what was made of copied bytes, in terms of those that were given
+by-copies : (port : ℕ) {image thresholds store codes s t : List ℕ} {whole table : Bool} {r : Outcome}
+    → r ≡ made port (leb port 31) whole table store codes
+    → Copied thresholds t table codes → Copied image s whole store
+    → r ≡ made port (leb port 31) (eqb (length image) (length s)) (eqb (length thresholds) (length t)) image thresholds
+by-copies port {image} {thresholds} {s = s} {t = t} p q w =
+    rw (p, q .bytes, w .bytes, q .fits, w .fits) (by-length port (leb port 31) (eqb (length image) (length s)) (eqb (length thresholds) (length t)) image thresholds s t)
 
 pub make-spec : {M : Type 1} → statement M
 unfolding make zeros made
@@ -44,4 +52,4 @@ make-spec =
     (λ c κs. search needs)
     (λ c κs. search needs)
     (λ c κs. search needs)
-    (λ c. rw (c .made .ensures, c .before .fresh .ensures, c .before .before .to-creation .ensures, c .before .before .before .ordered .ensures, c .before .before .before .before .thresholds-of .ensures, c .before .before .before .before .before .before .checksum-right .ensures, c .before .before .before .before .before .before .before .before .before .copied2 .ensures .bytes, c .before .before .before .before .before .before .before .before .before .copied2 .ensures .fits, c .before .before .before .before .before .before .before .before .before .before .before .before .copied .ensures .bytes, c .before .before .before .before .before .before .before .before .before .before .before .before .copied .ensures .fits) (by-length (c .before .before .before .before .before .before .before .before .before .before .before .before .before .before .before .before .args .port) (leb (c .before .before .before .before .before .before .before .before .before .before .before .before .before .before .before .before .args .port) 31) (eqb (length (c .before .before .before .before .before .before .before .before .before .before .before .before .before .before .before .before .args .image .now)) 256) (eqb (length (c .before .before .before .before .before .before .before .before .before .before .before .before .before .before .before .before .args .thresholds .now)) 40) (c .before .before .before .before .before .before .before .before .before .before .before .before .before .before .before .before .args .image .now) (c .before .before .before .before .before .before .before .before .before .before .before .before .before .before .before .before .args .thresholds .now) (zeros 256) (zeros 40))))
+    (λ c. by-copies (c .before .before .before .before .before .before .before .before .before .before .before .before .before .before .before .before .args .port) (rw (c .made .ensures, c .before .fresh .ensures, c .before .before .to-creation .ensures, c .before .before .before .ordered .ensures, c .before .before .before .before .thresholds-of .ensures, c .before .before .before .before .before .before .checksum-right .ensures)) (c .before .before .before .before .before .before .before .before .before .copied2 .ensures) (c .before .before .before .before .before .before .before .before .before .before .before .before .copied .ensures)))
