@@ -102,8 +102,7 @@ impl Module {
     pub fn reset_pin(self) -> Outcome
         ensures { λ r. ⌜ r ≡ resetPin self ⌝ }
     {
-        let alarms = self.alarms;
-        let reset = self.started(self.powered, alarms.restarted());
+        let reset = self.started(self.powered, self.alarms.restarted());
         self.taken(Answer::to_call(self.powered, true), reset)
     }
 
@@ -112,9 +111,8 @@ impl Module {
         ensures { λ r. ⌜ r ≡ powerCut self cut ⌝ }
     {
         let before = self;
-        let job = self.job;
         let mut store = self.store;
-        tear(&mut store, work_of(job, true), cut);
+        tear(&mut store, work_of(self.job, true), cut);
         self.store = store;
         self.powered = false;
         before.taken(Answer::to_call(before.powered, true), self)
@@ -124,10 +122,8 @@ impl Module {
     pub fn tick(mut self) -> TickOutcome
         ensures { λ r. ⌜ r ≡ tick self ⌝ }
     {
-        let job = self.job;
-        let powered = self.powered;
-        let work = work_of(job, powered);
-        self.job = after_work(job, work);
+        let work = work_of(self.job, self.powered);
+        self.job = after_work(self.job, work);
         let mut store = self.store;
         let mut copy = self.copy;
         let answer = move_byte(&mut store, &mut copy, work);
@@ -144,8 +140,7 @@ impl Module {
         ensures { λ r. ⌜ r ≡ lines self given ⌝ }
     {
         let before = self;
-        let alarms = self.alarms;
-        self.alarms = alarms.lines(given);
+        self.alarms = self.alarms.lines(given);
         before.taken(Answer::to_call(before.powered, true), self)
     }
 
@@ -156,10 +151,8 @@ impl Module {
         let before = self;
         let thresholds = self.thresholds;
         let flags = flags_of(thresholds_of(&thresholds), given);
-        let alarms = self.alarms;
-        let monitor = self.monitor;
-        self.alarms = alarms.sampled(flags);
-        self.monitor = monitor.sampled(given);
+        self.alarms = self.alarms.sampled(flags);
+        self.monitor = self.monitor.sampled(given);
         before.taken(Answer::to_call(before.powered, given.acceptable()), self)
     }
 
@@ -167,14 +160,10 @@ impl Module {
     fn after(mut self, action: Action) -> Module
         ensures { λ r. ⌜ r ≡ moduleAfter self action ⌝ }
     {
-        let job = self.job;
-        let bus = self.bus;
-        let alarms = self.alarms;
-        let monitor = self.monitor;
-        self.job = job.after(action);
-        self.bus = bus.after(action);
-        self.alarms = alarms.after(action);
-        self.monitor = monitor.after(action);
+        self.job = self.job.after(action);
+        self.bus = self.bus.after(action);
+        self.alarms = self.alarms.after(action);
+        self.monitor = self.monitor.after(action);
         let mut copy = self.copy;
         write_copy(&mut copy, action);
         self.copy = copy;
@@ -185,18 +174,13 @@ impl Module {
     pub fn frame(self, word: u32) -> FrameOutcome
         ensures { λ r. ⌜ r ≡ frame self word ⌝ }
     {
-        let job = self.job;
-        let busy = job.busy();
-        let action = decide(self.powered, self.port, self.bus.address, busy, word);
-        let register = action.register();
+        let action = decide(self.powered, self.port, self.bus.address, self.job.busy(), word);
         let copy = self.copy;
         let thresholds = self.thresholds;
-        let value = register_value(register, &copy, &thresholds, job, self.alarms, self.monitor);
-        let answer = FrameAnswer::of(action, value);
-        let next = self.after(action);
+        let value = register_value(action.register(), &copy, &thresholds, self.job, self.alarms, self.monitor);
         FrameOutcome {
-            next: next,
-            answer: answer,
+            next: self.after(action),
+            answer: FrameAnswer::of(action, value),
         }
     }
 }

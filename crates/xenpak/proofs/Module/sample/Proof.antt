@@ -17,4 +17,4 @@ sample-spec =
     (λ c κs. search needs)
     (λ c κs. search needs)
     (λ c κs. search needs)
-    (λ c. rw (c .taken .ensures, c .before .to-call .ensures, c .before .before .acceptable .ensures, c .before .before .before .sampled2 .ensures, c .before .before .before .before .sampled .ensures, c .before .before .before .before .before .before .before .flags-of .ensures, c .before .before .before .before .before .before .before .before .thresholds-of .ensures)))
+    (λ c. rw (c .taken .ensures, c .before .to-call .ensures, c .before .before .acceptable .ensures, c .before .before .before .sampled2 .ensures, c .before .before .before .before .sampled .ensures, c .before .before .before .before .before .flags-of .ensures, c .before .before .before .before .before .before .thresholds-of .ensures)))
