@@ -77,28 +77,30 @@ fn times(word: u64, a: u32, b: u32) -> u32 {
     }
 }
 
+// The module after a call, whose answer is shown if it is asked for.
+fn once(m: Module, call: Call, asks: bool) -> Module {
+    let outcome = call.on(m);
+    let answer = outcome.answer;
+    answered(answer, asks);
+    outcome.next
+}
+
 // So many times the same call.
-fn repeated(m: Module, call: Call, n: u32, asks: bool) -> Module {
-    let mut next = m;
+fn repeated(mut m: Module, call: Call, n: u32, asks: bool) -> Module {
     for _i in 0..n {
-        let outcome = call.on(next);
-        let answer = outcome.answer;
-        answered(answer, asks);
-        next = outcome.next;
+        m = once(m, call, asks);
     }
-    next
+    m
 }
 
 // A step that makes a call; to write, read or walk, an address frame first.
 fn called(m: Module, step: Step) -> Module {
     let word = step.word;
-    let a = step.first;
-    let call = call_of(word, a, step.second, step.third);
-    let n = times(word, a, step.second);
+    let call = call_of(word, step.first, step.second, step.third);
+    let n = times(word, step.first, step.second);
     match word {
         WRITE | READ | WALK => {
-            let address = Call::Frame(ADDRESS_FRAME + a % 0x1_0000);
-            let addressed = repeated(m, address, 1, false);
+            let addressed = once(m, Call::Frame(ADDRESS_FRAME + step.first % 0x1_0000), false);
             repeated(addressed, call, n, step.asks | (word != WRITE))
         }
         _ => repeated(m, call, n, step.asks),
@@ -107,7 +109,7 @@ fn called(m: Module, step: Step) -> Module {
 
 // A fresh module that is powered on, its first load done.
 fn loaded() -> Module {
-    let powered = repeated(fresh(), Call::PowerOn, 1, false);
+    let powered = once(fresh(), Call::PowerOn, false);
     repeated(powered, Call::Tick, 256, false)
 }
 
@@ -137,19 +139,18 @@ fn changed(m: Module) -> u32 {
 // A step that looks at the module.
 fn look(m: Module, step: Step) {
     let word = step.word;
-    let offset = (decimal(step.first) % 256) as u8;
     match word {
         LINE => number(alarm_line(m) as u32),
         COUNT => number(counter(m) as u32),
-        STORED => crate::print::word(stored(m, offset) as u16),
+        STORED => crate::print::word(stored(m, (decimal(step.first) % 256) as u8) as u16),
         CHANGED => number(changed(m)),
-        MARK | IMAGE | CODES => {}
+        MARK | BACK | IMAGE | CODES => {}
         _ => text(b"=?"),
     }
 }
 
-// The module after a step; `parts` are those of the next making, and `marked` is the module that a step can go back to.
-fn after(m: Module, parts: Parts, marked: Module, step: Step) -> Module {
+// The module after a step; `parts` are those of the next making.
+fn after(m: Module, parts: Parts, step: Step) -> Module {
     let word = step.word;
     match word {
         ON
@@ -170,7 +171,6 @@ fn after(m: Module, parts: Parts, marked: Module, step: Step) -> Module {
         MAKE => parts.made((decimal(step.first) % 256) as u8, step.asks),
         FRESH => fresh(),
         LOADED => loaded(),
-        BACK => marked,
         SETTLE => settle_within(m, decimal(step.first)),
         _ => {
             look(m, step);
@@ -190,10 +190,13 @@ pub fn play(sheet: &[u8]) {
         let byte = sheet[i];
         step = step.fed(byte);
         if step.ready {
-            m = after(m, parts, marked, step);
+            m = after(m, parts, step);
             parts = parts.after(step);
             if step.word == MARK {
                 marked = m;
+            }
+            if step.word == BACK {
+                m = marked;
             }
             step = step.done();
         }

@@ -167,9 +167,8 @@ impl Step {
 
     // A word or a number ends.
     fn gap(mut self) -> Step {
-        let count = self.count;
         if self.inside == IN_NUMBER {
-            self.count = count % 3 + 1;
+            self.count = self.count % 3 + 1;
         }
         self.ready = (self.inside != GAP) & (self.count == numbers_of(self.word));
         self.inside = GAP;

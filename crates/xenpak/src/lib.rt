@@ -174,10 +174,23 @@ impl Module {
     pub fn frame(self, word: u32) -> FrameOutcome
         ensures { λ r. ⌜ r ≡ frame self word ⌝ }
     {
-        let action = decide(self.powered, self.port, self.bus.address, self.job.busy(), word);
+        let action = decide(
+            self.powered,
+            self.port,
+            self.bus.address,
+            self.job.busy(),
+            word,
+        );
         let copy = self.copy;
         let thresholds = self.thresholds;
-        let value = register_value(action.register(), &copy, &thresholds, self.job, self.alarms, self.monitor);
+        let value = register_value(
+            action.register(),
+            &copy,
+            &thresholds,
+            self.job,
+            self.alarms,
+            self.monitor,
+        );
         FrameOutcome {
             next: self.after(action),
             answer: FrameAnswer::of(action, value),

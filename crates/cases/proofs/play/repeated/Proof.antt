@@ -6,10 +6,10 @@ use Rattle.cases.proofs.play.repeated.Statement.{statement}
 use Rattle.cases.proofs.play.repeated.Tie as tie
 
 abbrev Inv-loop : tie.InvT-loop
-Inv-loop call n shown next₀ -i₀ next -i = -i ≤ n
+Inv-loop m₀ call n asks -i₀ m -i = -i ≤ n
 
 abbrev μ-loop : tie.MeasureT-loop
-μ-loop call n shown next₀ -i₀ next -i = n - -i
+μ-loop m₀ call n asks -i₀ m -i = n - -i
 
 pub repeated-spec : {M : Type 1} → statement M
 repeated-spec =
@@ -18,7 +18,6 @@ repeated-spec =
     Inv-loop
     μ-loop
     (λ c. search needs)
-    (λ c κs. search needs)
     (λ c κs. search needs)
     (λ c. search needs)
     (λ c. search needs)
