@@ -174,17 +174,13 @@ impl Module {
     pub fn frame(self, word: u32) -> FrameOutcome
         ensures { λ r. ⌜ r ≡ frame self word ⌝ }
     {
-        let action = decide(
-            self.powered,
-            self.port,
-            self.bus.address,
-            self.job.busy(),
-            word,
-        );
+        let busy = self.job.busy();
+        let action = decide(self.powered, self.port, self.bus.address, busy, word);
+        let register = action.register();
         let copy = self.copy;
         let thresholds = self.thresholds;
         let value = register_value(
-            action.register(),
+            register,
             &copy,
             &thresholds,
             self.job,
