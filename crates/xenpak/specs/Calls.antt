@@ -38,7 +38,8 @@ abbrev pub taken : Answer → Module → Module → Outcome
 taken answer m next = record { next = kept answer m next; answer = answer }
 
 -- ---- starts
--- what power-on and reset share: a first load, with copy, address, last sample, held byte and counter at zero
+-- what power-on and reset share, with this power and these alarms: a first load, with copy, address, last sample, held
+-- byte and counter at zero
 abbrev pub started : Bool → Alarms → Module → Module
 started powered alarms m =
     record {

@@ -174,19 +174,13 @@ impl Module {
     pub fn frame(self, word: u32) -> FrameOutcome
         ensures { λ r. ⌜ r ≡ frame self word ⌝ }
     {
-        let busy = self.job.busy();
+        let job = self.job;
+        let busy = job.busy();
         let action = decide(self.powered, self.port, self.bus.address, busy, word);
         let register = action.register();
         let copy = self.copy;
         let thresholds = self.thresholds;
-        let value = register_value(
-            register,
-            &copy,
-            &thresholds,
-            self.job,
-            self.alarms,
-            self.monitor,
-        );
+        let value = register_value(register, &copy, &thresholds, job, self.alarms, self.monitor);
         FrameOutcome {
             next: self.after(action),
             answer: FrameAnswer::of(action, value),
