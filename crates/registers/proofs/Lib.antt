@@ -1,2 +1,3 @@
 -- Laws of `registers` that belong to no one function.
 pub mod Between
+pub mod Rest

@@ -1,33 +1,11 @@
 -- `monitor::Monitor::after_read` meets its contract.
 -- Assumes nothing.
-use Prim.Native.Nat.{ℕ}
-use mathlib.Core.List.{List, [], _∷_}
-use mathlib.Core.Path.{_≡_, refl}
-use types.Run.{OneOf, miss}
-use denote.Enum.Declared.{tagOf}
+use mathlib.Core.List.{[], _∷_}
 use borrow.Author.Needs.{needs}
-use Rattle.registers.proofs.Register.{the-type}
-use Rattle.registers.specs.declared.Register.{Register}
-use Rattle.registers.specs.declared.Register.the-variants as register
+use Rattle.registers.proofs.Rest.{rest}
 use Rattle.monitor.specs.Monitor.{afterRead}
-use Rattle.monitor.specs.declared.Monitor.{Monitor}
 use Rattle.monitor.proofs.Monitor.after_read.Statement.{statement}
 use Rattle.monitor.proofs.Monitor.after_read.Tie as tie
-
-abbrev keys : List ℕ
-keys = 0 ∷ 1 ∷ 2 ∷ 3 ∷ 4 ∷ 5 ∷ 6 ∷ 8 ∷ 9 ∷ []
-
-others : (m : Monitor) (x : Register) → OneOf keys (tagOf the-type x) → m ≡ afterRead m x
-others m register.PmaControl o = refl
-others m register.NvrControl o = refl
-others m (register.Copy offset) o = refl
-others m (register.Customer offset) o = refl
-others m (register.Control i) o = refl
-others m (register.Status i) o = refl
-others m (register.Threshold k) o = refl
-others m (register.Sample quantity low) o = absurd (miss keys 7 (tt {0}) o)
-others m (register.Flags i) o = refl
-others m register.Unlisted o = refl
 
 pub after-read-spec : {M : Type 1} → statement M
 after-read-spec =
@@ -36,4 +14,4 @@ after-read-spec =
     (λ c. search needs)
     (λ c κs. search needs)
     (λ c. rw (c .after-sample-read .ensures, c .before .before .register .given .1))
-    (λ c. others (c .before .args .self) (c .before .args .register) (c .match .keys2)))
+    (λ c. rest (0 ∷ 1 ∷ 2 ∷ 3 ∷ 4 ∷ 5 ∷ 6 ∷ 8 ∷ 9 ∷ []) (c .before .args .self) (afterRead (c .before .args .self)) (search needs) (c .before .args .register) (c .match .keys2)))

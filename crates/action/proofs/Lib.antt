@@ -1,0 +1,2 @@
+-- Laws of `action` that belong to no one function.
+pub mod Rest
