@@ -1,6 +1,6 @@
 -- The alarm registers hold what the history rule says, and so does the alarm line.
 -- Assumes nothing.
-use Prim.Native.Nat.{ℕ, zero, suc, _<_}
+use Prim.Native.Nat.{ℕ, zero, suc, _≤_, _<_}
 use native.Mathlib.Omega.{arith}
 use borrow.Author.Tests.{ne-eqb}
 use mathlib.Core.Bool.{Bool, true, false, cond, _&&_, _||_}
@@ -131,29 +131,26 @@ lines-all t a l =
       changed = refl;
     }
 
--- a flag's place in its word
+-- a flag's place in its word: eight bits, and none above
+placed : (f : ℕ → Bool) → ((i : ℕ) → 8 ≤ i → f i ≡ false) → (i : ℕ)
+    → getD (f 0 ∷ f 1 ∷ f 2 ∷ f 3 ∷ f 4 ∷ f 5 ∷ f 6 ∷ f 7 ∷ []) i false ≡ f i
+placed f none zero = refl
+placed f none (suc zero) = refl
+placed f none (suc (suc zero)) = refl
+placed f none (suc (suc (suc zero))) = refl
+placed f none (suc (suc (suc (suc zero)))) = refl
+placed f none (suc (suc (suc (suc (suc zero))))) = refl
+placed f none (suc (suc (suc (suc (suc (suc zero)))))) = refl
+placed f none (suc (suc (suc (suc (suc (suc (suc zero))))))) = refl
+placed f none (suc (suc (suc (suc (suc (suc (suc (suc i)))))))) = sym (none _ (omega arith))
+
 tx-place : (flag : Side → ℕ → Bool) (i : ℕ) → getD (txBits flag) i false ≡ txFlag flag i
-tx-place flag zero = refl
-tx-place flag (suc zero) = refl
-tx-place flag (suc (suc zero)) = refl
-tx-place flag (suc (suc (suc zero))) = refl
-tx-place flag (suc (suc (suc (suc zero)))) = refl
-tx-place flag (suc (suc (suc (suc (suc zero))))) = refl
-tx-place flag (suc (suc (suc (suc (suc (suc zero)))))) = refl
-tx-place flag (suc (suc (suc (suc (suc (suc (suc zero))))))) = refl
-tx-place flag (suc (suc (suc (suc (suc (suc (suc (suc i)))))))) =
-    rw (other (suc (suc (suc (suc (suc (suc (suc (suc i)))))))) 7 (omega arith), other (suc (suc (suc (suc (suc (suc (suc (suc i)))))))) 6 (omega arith), other (suc (suc (suc (suc (suc (suc (suc (suc i)))))))) 3 (omega arith), other (suc (suc (suc (suc (suc (suc (suc (suc i)))))))) 2 (omega arith), other (suc (suc (suc (suc (suc (suc (suc (suc i)))))))) 1 (omega arith), other (suc (suc (suc (suc (suc (suc (suc (suc i)))))))) 0 (omega arith))
+tx-place flag =
+    placed (txFlag flag)
+    (λ i h. rw (other i 7 (omega arith), other i 6 (omega arith), other i 3 (omega arith), other i 2 (omega arith), other i 1 (omega arith), other i 0 (omega arith)))
 
 rx-place : (flag : Side → ℕ → Bool) (i : ℕ) → getD (rxBits flag) i false ≡ rxFlag flag i
-rx-place flag zero = refl
-rx-place flag (suc zero) = refl
-rx-place flag (suc (suc zero)) = refl
-rx-place flag (suc (suc (suc zero))) = refl
-rx-place flag (suc (suc (suc (suc zero)))) = refl
-rx-place flag (suc (suc (suc (suc (suc zero))))) = refl
-rx-place flag (suc (suc (suc (suc (suc (suc zero)))))) = refl
-rx-place flag (suc (suc (suc (suc (suc (suc (suc zero))))))) = refl
-rx-place flag (suc (suc (suc (suc (suc (suc (suc (suc i)))))))) = rw (other (suc (suc (suc (suc (suc (suc (suc (suc i)))))))) 7 (omega arith), other (suc (suc (suc (suc (suc (suc (suc (suc i)))))))) 6 (omega arith))
+rx-place flag = placed (rxFlag flag) (λ i h. rw (other i 7 (omega arith), other i 6 (omega arith)))
 
 sample-all : (t : List ℕ) (a : Alarms) (s : _) → AlarmsFollow t (gotSample s) a (alarms.afterSample a (flagsOf (thresholdsOf t) s))
 unfolding flagsOf
