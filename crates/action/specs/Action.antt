@@ -41,15 +41,3 @@ requestAction request.ReadIncrement address busy = Read (registerAt address) tru
 unfoldable pub actionOf : Bool → ℕ → ℕ → Bool → ℕ → Action
 actionOf powered port address busy word =
     cond powered (requestAction (requestOf word port) address busy) Refused
-
--- the register that a frame reads
-abbrev pub registerOf : Action → Register
-registerOf Refused = register.Unlisted
-registerOf Silent = register.Unlisted
-registerOf (SetAddress a) = register.Unlisted
-registerOf Dropped = register.Unlisted
-registerOf Reset = register.Unlisted
-registerOf (Command word) = register.Unlisted
-registerOf (Customer offset byte) = register.Unlisted
-registerOf (Control i word) = register.Unlisted
-registerOf (Read r increment) = r

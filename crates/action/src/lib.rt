@@ -1,9 +1,6 @@
 // What a frame asks of the module's parts, decided once.
 ghost use mathlib.Core.Path.{_≡_};
 ghost use Rattle.action.specs.Action.{when, writeTo, requestAction, actionOf};
-
-pub mod read;
-
 use mdio::Request;
 use registers::Register;
 use words::bit;

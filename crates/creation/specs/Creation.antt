@@ -28,6 +28,7 @@ fresh port image thresholds =
       powered = false;
       port = port;
       thresholds = thresholds;
+      command = 0;
       bus = noBus;
       alarms = noAlarms;
       monitor = noMonitor;

@@ -39,6 +39,7 @@ fn fresh(port: u8, store: [u8; 256], thresholds: [u8; 40]) -> Module
         powered: false,
         port: port,
         thresholds: thresholds,
+        command: 0,
         bus: Bus::ZERO,
         alarms: Alarms::NONE,
         monitor: Monitor::NONE,

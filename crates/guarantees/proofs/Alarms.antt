@@ -274,7 +274,7 @@ alarms-step {t} {e} {h} f ok =
       changed = f .changed ∙ ap₂ (changedAfter e) (ok .link) (ok .changed);
     }
 
-pub step-alarms : (m : Module) → JobSound (m .job) → (c : Call) (h : List Event) → AlarmsSound (m .thresholds) h (m .alarms)
+pub step-alarms : (m : Module) → JobSound (m .job) (m .command) → (c : Call) (h : List Event) → AlarmsSound (m .thresholds) h (m .alarms)
     → AlarmsSound (step m c .next .thresholds) (stepEvent (m .port) (referenceOf m) c ∷ h) (step m c .next .alarms)
 step-alarms m s c h ok =
     subst (λ (f : Fixed). AlarmsSound (f .thresholds) (stepEvent (m .port) (referenceOf m) c ∷ h) (step m c .next .alarms))
@@ -355,7 +355,7 @@ line-is m h ok = go (m .powered) refl
     go true p = share-bits (lasiStatus (m .alarms)) (m .alarms .controls .lasi) (lasi-bit m h ok p)
     go false p = refl
 
-pub run-lines : (m : Module) → JobSound (m .job) → (h : List Event) → AlarmsSound (m .thresholds) h (m .alarms) → (cs : List Call)
+pub run-lines : (m : Module) → JobSound (m .job) (m .command) → (h : List Event) → AlarmsSound (m .thresholds) h (m .alarms) → (cs : List Call)
     → alarmLines m cs ≡ linesByHistory (m .port) (m .thresholds) (referenceOf m) h cs
 unfolding alarmLines linesByHistory
 run-lines m s h ok [] = ap (λ (b : Bool). b ∷ []) (line-is m h ok)

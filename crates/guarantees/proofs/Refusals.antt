@@ -14,7 +14,8 @@ use Rattle.mdio.specs.declared.Request.the-variants as request
 use Rattle.registers.specs.Map.{registerAt}
 use Rattle.registers.specs.declared.Register.{Register}
 use Rattle.registers.specs.declared.Register.the-variants as register
-use Rattle.action.specs.Action.{when, writeTo, requestAction, actionOf, registerOf}
+use Rattle.action.specs.Action.{when, writeTo, requestAction, actionOf}
+use Rattle.values.specs.Values.{registerOf}
 use Rattle.action.specs.declared.Action.{Action}
 use Rattle.action.specs.declared.Action.the-variants as action
 use Rattle.nvr.specs.Image.{checksumRight}

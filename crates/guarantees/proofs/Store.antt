@@ -64,35 +64,28 @@ command-burns v =
     (λ _. tt))
     (λ _. tt))
 
-command-ended : (c : Command) (w : ℕ) → Ended (job.commandJob c w .ended)
-command-ended command.LoadAll w = idle
-command-ended (command.LoadByte offset) w = idle
-command-ended command.BurnCustomer w = idle
-command-ended (command.BurnByte offset) w = idle
-command-ended command.Failed w = failed
+command-ended : (c : Command) → Ended (job.commandJob c .ended)
+command-ended command.LoadAll = idle
+command-ended (command.LoadByte offset) = idle
+command-ended command.BurnCustomer = idle
+command-ended (command.BurnByte offset) = idle
+command-ended command.Failed = failed
 
-command-kept : (c : Command) (w : ℕ) → job.commandJob c w .kept ≡ w
-command-kept command.LoadAll w = refl
-command-kept (command.LoadByte offset) w = refl
-command-kept command.BurnCustomer w = refl
-command-kept (command.BurnByte offset) w = refl
-command-kept command.Failed w = refl
-
-command-sound : (v : ℕ) → JobSound (job.jobOf v)
+command-sound : (v : ℕ) → JobSound (job.commandJob (commandOf v)) (keptBits v)
 command-sound v =
     record {
-      kept = rw (command-kept (commandOf v) (keptBits v)) (kept-masked v);
-      ended = command-ended (commandOf v) (keptBits v);
+      kept = kept-masked v;
+      ended = command-ended (commandOf v);
       burns = subst BurnSound (sym (new-job v)) (command-burns v);
     }
 
-tick-sound : (j : ModuleJob) → JobSound j → JobSound (afterWork j (workOf true j))
-tick-sound j h = go (eqb (j .kind) 0) (eqb (j .kind) 2) (ltb (j .due) (j .last)) refl refl refl
+tick-sound : (j : ModuleJob) (w : ℕ) → JobSound j w → JobSound (afterWork j (workOf true j)) w
+tick-sound j w h = go (eqb (j .kind) 0) (eqb (j .kind) 2) (ltb (j .due) (j .last)) refl refl refl
   where
     burning : eqb (j .kind) 0 ≡ false → eqb (j .kind) 2 ≡ true → (119 ≤ j .due) × (j .due ≤ j .last) × (j .last ≤ 166)
     burning p q = rw (p, q) at (h .burns)
 
-    go : (b c d : Bool) → eqb (j .kind) 0 ≡ b → eqb (j .kind) 2 ≡ c → ltb (j .due) (j .last) ≡ d → JobSound (afterWork j (workOf true j))
+    go : (b c d : Bool) → eqb (j .kind) 0 ≡ b → eqb (j .kind) 2 ≡ c → ltb (j .due) (j .last) ≡ d → JobSound (afterWork j (workOf true j)) w
     go true c d p q r = rw p h
     go false true true p q r =
         let b = burning p q in
@@ -102,39 +95,39 @@ tick-sound j h = go (eqb (j .kind) 0) (eqb (j .kind) 2) (ltb (j .due) (j .last))
     go false false true p q r = rw (p, q, r) (record { kept = h .kept; ended = h .ended; burns = rw (p, q) tt })
     go false false false p q r = rw (p, q, r) (record { kept = h .kept; ended = done; burns = tt })
 
-read-sound : (j : ModuleJob) → JobSound j → (r : Register) → JobSound (job.afterRead j r)
-read-sound j h register.PmaControl = h
-read-sound j h register.NvrControl = record { kept = h .kept; ended = idle; burns = h .burns }
-read-sound j h (register.Copy offset) = h
-read-sound j h (register.Customer offset) = h
-read-sound j h (register.Control i) = h
-read-sound j h (register.Status i) = h
-read-sound j h (register.Threshold k) = h
-read-sound j h (register.Sample quantity low) = h
-read-sound j h (register.Flags i) = h
-read-sound j h register.Unlisted = h
+read-sound : (j : ModuleJob) (w : ℕ) → JobSound j w → (r : Register) → JobSound (job.afterRead j r) w
+read-sound j w h register.PmaControl = h
+read-sound j w h register.NvrControl = record { kept = h .kept; ended = idle; burns = h .burns }
+read-sound j w h (register.Copy offset) = h
+read-sound j w h (register.Customer offset) = h
+read-sound j w h (register.Control i) = h
+read-sound j w h (register.Status i) = h
+read-sound j w h (register.Threshold k) = h
+read-sound j w h (register.Sample quantity low) = h
+read-sound j w h (register.Flags i) = h
+read-sound j w h register.Unlisted = h
 
-pub no-job-sound : JobSound job.noJob
+pub no-job-sound : JobSound job.noJob 0
 no-job-sound = record { kept = refl; ended = idle; burns = tt }
 
-first-sound : JobSound job.firstLoad
+first-sound : JobSound job.firstLoad job.firstCommand
 first-sound = record { kept = refl; ended = idle; burns = tt }
 
-to-sound : {m n : Module} {r : Reference} {l : List Entry} {e : Event} → Transition m n r l e → JobSound (m .job) → JobSound (n .job)
-to-sound (unchanged p) h = subst (λ (x : Module). JobSound (x .job)) (sym p) h
+to-sound : {m n : Module} {r : Reference} {l : List Entry} {e : Event} → Transition m n r l e → JobSound (m .job) (m .command) → JobSound (n .job) (n .command)
+to-sound (unchanged p) h = subst (λ (x : Module). JobSound (x .job) (x .command)) (sym p) h
 to-sound powering h = first-sound
 to-sound (cutting cut) h = h
 to-sound (resetting on) h = first-sound
-to-sound {m} ticking h = tick-sound (m .job) h
+to-sound {m} ticking h = tick-sound (m .job) (m .command) h
 to-sound (lining l) h = h
 to-sound (sampling s) h = h
 to-sound (addressing a) h = h
 to-sound (commanding v) h = command-sound v
 to-sound (writing offset v) h = h
 to-sound (controlling i v) h = h
-to-sound {m} (reading r increment) h = read-sound (m .job) h r
+to-sound {m} (reading r increment) h = read-sound (m .job) (m .command) h r
 
-pub step-sound : (m : Module) → JobSound (m .job) → (c : Call) → JobSound (step m c .next .job)
+pub step-sound : (m : Module) → JobSound (m .job) (m .command) → (c : Call) → JobSound (step m c .next .job) (step m c .next .command)
 step-sound m h c = to-sound (transition m h c) h
 
 -- ---- the burn log
@@ -192,7 +185,7 @@ unfolding applied
 applied-append [] k s = refl
 applied-append (e ∷ l) k s = applied-append l k (set s (e .offset) (e .byte))
 
-pub run-store : (m : Module) → JobSound (m .job) → (cs : List Call)
+pub run-store : (m : Module) → JobSound (m .job) (m .command) → (cs : List Call)
     → run m cs .store ≡ applied (burnLog (m .port) (referenceOf m) cs) (m .store)
 unfolding run burnLog applied
 run-store m h [] = refl
@@ -224,7 +217,7 @@ cut-entries (load due last) cut h = tt
 cut-entries (burn due last) Clean h = tt
 cut-entries (burn due last) (Torn byte) h = (customer due (omega arith) (omega arith), tt)
 
-to-entries : {m n : Module} {r : Reference} {l : List Entry} {e : Event} → Transition m n r l e → JobSound (m .job) → AllCustomer l
+to-entries : {m n : Module} {r : Reference} {l : List Entry} {e : Event} → Transition m n r l e → JobSound (m .job) (m .command) → AllCustomer l
 to-entries (unchanged p) h = tt
 to-entries powering h = tt
 to-entries {m} (cutting cut) h = cut-entries (jobRef (m .job)) cut (h .burns)
@@ -238,7 +231,7 @@ to-entries (writing offset v) h = tt
 to-entries (controlling i v) h = tt
 to-entries (reading r increment) h = tt
 
-pub log-customer : (m : Module) → JobSound (m .job) → (cs : List Call) → AllCustomer (burnLog (m .port) (referenceOf m) cs)
+pub log-customer : (m : Module) → JobSound (m .job) (m .command) → (cs : List Call) → AllCustomer (burnLog (m .port) (referenceOf m) cs)
 unfolding burnLog
 log-customer m h [] = tt
 log-customer m h (c ∷ cs) =

@@ -60,7 +60,7 @@ controlsRef c = c .rxalarm ∷ c .txalarm ∷ c .lasi ∷ c .txflag ∷ c .rxfla
 
 abbrev pub referenceOf : Module → Reference
 referenceOf m =
-    reference (m .powered) (m .store) (m .copy) (m .bus .address) (controlsRef (m .alarms .controls)) (wordOf (m .job)) (jobRef (m .job))
+    reference (m .powered) (m .store) (m .copy) (m .bus .address) (controlsRef (m .alarms .controls)) (wordOf (m .job) (m .command)) (jobRef (m .job))
 
 -- ---- what holds of every job
 -- a burn stays in the customer bytes
@@ -69,13 +69,13 @@ BurnSound none = Unit {0}
 BurnSound (load due last) = Unit {0}
 BurnSound (burn due last) = (119 ≤ due) × (due ≤ last) × (last ≤ 166)
 
-pub record JobSound (j : ModuleJob) : Type 0 where
-  pub kept : Kept (j .kept)
+pub record JobSound (j : ModuleJob) (command : ℕ) : Type 0 where
+  pub kept : Kept command
   pub ended : Ended (j .ended)
   pub burns : BurnSound (jobRef j)
 
-busy-is : (j : ModuleJob) → JobSound j → busy (wordOf j) ≡ isBusy j
-busy-is j h = busy-word (j .kept) (h .kept) (eqb (j .kind) 0) (h .ended)
+busy-is : (j : ModuleJob) (command : ℕ) → JobSound j command → busy (wordOf j command) ≡ isBusy j
+busy-is j command h = busy-word command (h .kept) (eqb (j .kind) 0) (h .ended)
 
 -- ---- one call
 pub data Transition (m : Module) : Module → Reference → List Entry → Event → Type 0 where
@@ -119,14 +119,14 @@ module _ (m : Module) where
   unless true false e x p = absurd (let z : _≡_ {A = ℕ} 0 1 = cc in omega arith)
   unless false true e x p = absurd (let z : _≡_ {A = ℕ} 0 1 = cc in omega arith)
 
-  on-write : m .powered ≡ true → JobSound (m .job) → (v : ℕ) (r : Register)
+  on-write : m .powered ≡ true → JobSound (m .job) (m .command) → (v : ℕ) (r : Register)
       → Transition m (moduleAfter m (writeTo r (isBusy (m .job)) v)) (writeRef (referenceOf m) v r) [] (writeEvent v r)
   unfolding writeRef
   on-write on h v register.PmaControl = choice (bit 15 v) action.Reset action.Dropped (resetting on) (unchanged refl)
-  on-write on h v register.NvrControl = unless (busy (wordOf (m .job))) (isBusy (m .job)) (busy-is (m .job) h) (action.Command v) (commanding v)
+  on-write on h v register.NvrControl = unless (busy (wordOf (m .job) (m .command))) (isBusy (m .job)) (busy-is (m .job) (m .command) h) (action.Command v) (commanding v)
   on-write on h v (register.Copy offset) = unchanged refl
   on-write on h v (register.Customer offset) =
-      unless (busy (wordOf (m .job))) (isBusy (m .job)) (busy-is (m .job) h) (action.Customer offset (v % 256)) (writing offset v)
+      unless (busy (wordOf (m .job) (m .command))) (isBusy (m .job)) (busy-is (m .job) (m .command) h) (action.Customer offset (v % 256)) (writing offset v)
   on-write on h v (register.Control i) = controlling i v
   on-write on h v (register.Status i) = unchanged refl
   on-write on h v (register.Threshold k) = unchanged refl
@@ -134,7 +134,7 @@ module _ (m : Module) where
   on-write on h v (register.Flags i) = unchanged refl
   on-write on h v register.Unlisted = unchanged refl
 
-  on-request : m .powered ≡ true → JobSound (m .job) → (q : Request)
+  on-request : m .powered ≡ true → JobSound (m .job) (m .command) → (q : Request)
       → Transition m (moduleAfter m (requestAction q (m .bus .address) (isBusy (m .job)))) (frameRef (referenceOf m) q) []
       (frameEvent (m .bus .address) q)
   unfolding frameRef frameEvent
@@ -151,7 +151,7 @@ module _ (m : Module) where
   when true n f t p = t p
   when false n f t p = unchanged (f p)
 
-pub transition : (m : Module) → JobSound (m .job) → (c : Call)
+pub transition : (m : Module) → JobSound (m .job) (m .command) → (c : Call)
     → Transition m (step m c .next) (stepRef (m .port) (referenceOf m) c) (stepLog (referenceOf m) c) (stepEvent (m .port) (referenceOf m) c)
 unfolding step stepRef stepLog stepEvent onRef offRef onLog onEvent offEvent calls.powerOn calls.powerCut calls.resetPin calls.tick calls.lines calls.sample frame actionOf
 transition m h call.PowerOn = go (m .powered)
@@ -183,12 +183,12 @@ zeros-are = refl
 start-ref : (m : Module) → m .powered ≡ true → referenceOf (moduleAfter m action.Reset) ≡ started (referenceOf m)
 start-ref m on = ap₂ (λ (p : Bool) (c : List ℕ). reference p (m .store) c 0 zeroControls 0x000b (load 0 255)) on zeros-are
 
-tick-ref : (m : Module) → JobSound (m .job) → referenceOf (tickBy m (workOf true (m .job)) .next) ≡ tickRef (referenceOf m) (jobRef (m .job))
+tick-ref : (m : Module) → JobSound (m .job) (m .command) → referenceOf (tickBy m (workOf true (m .job)) .next) ≡ tickRef (referenceOf m) (jobRef (m .job))
 unfolding tickRef
 tick-ref m h = go (eqb (m .job .kind) 0) (eqb (m .job .kind) 2) (ltb (m .job .due) (m .job .last)) refl refl refl
   where
-    last : withStatus 1 (bitOr (m .job .kept) 8) ≡ bitOr (m .job .kept) 4
-    last = status-put (m .job .kept) (h .kept) 1 2 (omega arith) refl
+    last : withStatus 1 (bitOr (m .command) 8) ≡ bitOr (m .command) 4
+    last = status-put (m .command) (h .kept) 1 2 (omega arith) refl
 
     go : (b c d : Bool) → eqb (m .job .kind) 0 ≡ b → eqb (m .job .kind) 2 ≡ c → ltb (m .job .due) (m .job .last) ≡ d
         → referenceOf (tickBy m (workOf true (m .job)) .next) ≡ tickRef (referenceOf m) (jobRef (m .job))
@@ -217,15 +217,15 @@ commandRef command.BurnCustomer = burn 119 166
 commandRef (command.BurnByte offset) = burn offset offset
 commandRef command.Failed = none
 
-command-job : (c : Command) (w : ℕ) → jobRef (job.commandJob c w) ≡ commandRef c
+command-job : (c : Command) → jobRef (job.commandJob c) ≡ commandRef c
 unfolding commandRef
-command-job command.LoadAll w = refl
-command-job (command.LoadByte offset) w = refl
-command-job command.BurnCustomer w = refl
-command-job (command.BurnByte offset) w = refl
-command-job command.Failed w = refl
+command-job command.LoadAll = refl
+command-job (command.LoadByte offset) = refl
+command-job command.BurnCustomer = refl
+command-job (command.BurnByte offset) = refl
+command-job command.Failed = refl
 
-command-word : (c : Command) (w : ℕ) → wordOf (job.commandJob c w) ≡ bitOr w (4 * commandStatus (commandRef c))
+command-word : (c : Command) (w : ℕ) → wordOf (job.commandJob c) w ≡ bitOr w (4 * commandStatus (commandRef c))
 unfolding commandRef
 command-word command.LoadAll w = refl
 command-word (command.LoadByte offset) w = refl
@@ -262,10 +262,10 @@ command-ref v = go (eqb (v % 4) 3) (eqb (v % 4) 2) (bit 5 v)
     go false true false = refl
     go false false w = refl
 
-pub new-job : (v : ℕ) → jobRef (job.jobOf v) ≡ commandJob v
-new-job v = command-job (commandOf v) (keptBits v) ∙ command-ref v
+pub new-job : (v : ℕ) → jobRef (job.commandJob (commandOf v)) ≡ commandJob v
+new-job v = command-job (commandOf v) ∙ command-ref v
 
-new-word : (v : ℕ) → wordOf (job.jobOf v) ≡ withStatus (commandStatus (commandJob v)) v
+new-word : (v : ℕ) → wordOf (job.commandJob (commandOf v)) (keptBits v) ≡ withStatus (commandStatus (commandJob v)) v
 new-word v = command-word (commandOf v) (keptBits v) ∙ ap (λ (j : Job). bitOr (keptBits v) (4 * commandStatus j)) (command-ref v)
 
 control-ref : (c : Controls) (i v : ℕ) → controlsRef (controlWritten c i v) ≡ set (controlsRef c) i (bitAnd v (getD masks i 0))
@@ -294,12 +294,12 @@ module _ (m : Module) where
   abbrev withControlsOf : Controls → Reference
   withControlsOf c = withControls (controlsRef c) (referenceOf m)
 
-  read-ref : JobSound (m .job) → (r : Register) → referenceOf (moduleAfter m (action.Read r false)) ≡ readRef (referenceOf m) r
+  read-ref : JobSound (m .job) (m .command) → (r : Register) → referenceOf (moduleAfter m (action.Read r false)) ≡ readRef (referenceOf m) r
   unfolding readRef
   read-ref h register.PmaControl = refl
   read-ref h register.NvrControl =
       ap (λ (w : ℕ). withWord w (jobRef (m .job)) (referenceOf m))
-      (sym (shown-word (m .job .kept) (h .kept) (eqb (m .job .kind) 0) (h .ended)))
+      (sym (shown-word (m .command) (h .kept) (eqb (m .job .kind) 0) (h .ended)))
   read-ref h (register.Copy offset) = refl
   read-ref h (register.Customer offset) = refl
   read-ref h (register.Control i) = refl
@@ -309,13 +309,13 @@ module _ (m : Module) where
   read-ref h (register.Flags i) = ap withControlsOf (flags-controls (m .alarms) i)
   read-ref h register.Unlisted = refl
 
-  reads-ref : JobSound (m .job) → (r : Register) (increment : Bool)
+  reads-ref : JobSound (m .job) (m .command) → (r : Register) (increment : Bool)
       → referenceOf (moduleAfter m (action.Read r increment))
       ≡ cond increment (withAddress (incremented (m .bus .address)) (readRef (referenceOf m) r)) (readRef (referenceOf m) r)
   reads-ref h r true = ap (withAddress (incremented (m .bus .address))) (read-ref h r)
   reads-ref h r false = read-ref h r
 
-to-ref : {m n : Module} {r : Reference} {l : List Entry} {e : Event} → JobSound (m .job) → Transition m n r l e → referenceOf n ≡ r
+to-ref : {m n : Module} {r : Reference} {l : List Entry} {e : Event} → JobSound (m .job) (m .command) → Transition m n r l e → referenceOf n ≡ r
 unfolding commanded
 to-ref h (unchanged p) = ap referenceOf p
 to-ref {m} h powering = ap (λ (c : List ℕ). reference true (m .store) c 0 zeroControls 0x000b (load 0 255)) zeros-are
@@ -330,7 +330,7 @@ to-ref h (writing offset v) = refl
 to-ref {m} h (controlling i v) = ap (λ (k : List ℕ). withControls k (referenceOf m)) (control-ref (m .alarms .controls) i v)
 to-ref {m} h (reading r increment) = reads-ref m h r increment
 
-pub step-ref : (m : Module) → JobSound (m .job) → (c : Call) → referenceOf (step m c .next) ≡ stepRef (m .port) (referenceOf m) c
+pub step-ref : (m : Module) → JobSound (m .job) (m .command) → (c : Call) → referenceOf (step m c .next) ≡ stepRef (m .port) (referenceOf m) c
 step-ref m h c = to-ref h (transition m h c)
 
 -- ---- port and thresholds stay
@@ -355,5 +355,5 @@ to-fixed (writing offset v) = refl
 to-fixed (controlling i v) = refl
 to-fixed (reading r increment) = refl
 
-pub step-fixed : (m : Module) → JobSound (m .job) → (c : Call) → fixedOf (step m c .next) ≡ fixedOf m
+pub step-fixed : (m : Module) → JobSound (m .job) (m .command) → (c : Call) → fixedOf (step m c .next) ≡ fixedOf m
 step-fixed m h c = to-fixed (transition m h c)

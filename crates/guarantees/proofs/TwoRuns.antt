@@ -93,12 +93,12 @@ unfolding run
 run-append m [] ds = refl
 run-append m (c ∷ cs) ds = run-append (step m c .next) cs ds
 
-run-fixed : (m : Module) → JobSound (m .job) → (cs : List Call) → fixedOf (run m cs) ≡ fixedOf m
+run-fixed : (m : Module) → JobSound (m .job) (m .command) → (cs : List Call) → fixedOf (run m cs) ≡ fixedOf m
 unfolding run
 run-fixed m h [] = refl
 run-fixed m h (c ∷ cs) = run-fixed (step m c .next) (step-sound m h c) cs ∙ step-fixed m h c
 
-run-ref : (m : Module) → JobSound (m .job) → (cs : List Call) → referenceOf (run m cs) ≡ runRef (m .port) (referenceOf m) cs
+run-ref : (m : Module) → JobSound (m .job) (m .command) → (cs : List Call) → referenceOf (run m cs) ≡ runRef (m .port) (referenceOf m) cs
 unfolding run runRef
 run-ref m h [] = refl
 run-ref m h (c ∷ cs) =
@@ -106,7 +106,7 @@ run-ref m h (c ∷ cs) =
     ∙ ap (λ (f : Fixed). runRef (f .port) (referenceOf (step m c .next)) cs) (step-fixed m h c)
     ∙ ap (λ (r : Reference). runRef (m .port) r cs) (step-ref m h c)
 
-run-alarms : (m : Module) → JobSound (m .job) → (h : List Event) → AlarmsSound (m .thresholds) h (m .alarms) → (cs : List Call)
+run-alarms : (m : Module) → JobSound (m .job) (m .command) → (h : List Event) → AlarmsSound (m .thresholds) h (m .alarms) → (cs : List Call)
     → AlarmsSound (run m cs .thresholds) (events (m .port) (referenceOf m) h cs) (run m cs .alarms)
 unfolding run events
 run-alarms m s h ok [] = ok

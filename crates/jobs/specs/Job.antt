@@ -39,28 +39,27 @@ busy = 2
 abbrev pub failed : ℕ
 failed = 3
 
--- a job of a kind, by its due and last offsets, that has not ended, with the bits that 8000 keeps
-abbrev pub job : ℕ → ℕ → ℕ → ℕ → Job
-job w k d l = record { kept = w; kind = k; due = d; last = l; ended = idle }
+-- a job of a kind, by its due and last offsets, that has not ended
+abbrev pub job : ℕ → ℕ → ℕ → Job
+job k d l = record { due = d; last = l; ended = idle; kind = k }
 
 abbrev pub noJob : Job
-noJob = job 0 none 0 0
+noJob = job none 0 0
 
 -- power-on and reset start a first load, of all offsets; 8000 reads 000B
 abbrev pub firstLoad : Job
-firstLoad = job 0x0003 first 0 255
+firstLoad = job first 0 255
+
+abbrev pub firstCommand : ℕ
+firstCommand = 0x0003
 
 -- all offsets, or 119 to 166, or that one offset; a failed command has no job
-abbrev pub commandJob : Command → ℕ → Job
-commandJob LoadAll w = job w load 0 255
-commandJob (LoadByte offset) w = job w load offset offset
-commandJob BurnCustomer w = job w burn 119 166
-commandJob (BurnByte offset) w = job w burn offset offset
-commandJob Failed w = record { kept = w; kind = none; due = 0; last = 0; ended = failed }
-
--- the job of a word written to 8000
-abbrev pub jobOf : ℕ → Job
-jobOf w = commandJob (commandOf w) (keptBits w)
+abbrev pub commandJob : Command → Job
+commandJob LoadAll = job load 0 255
+commandJob (LoadByte offset) = job load offset offset
+commandJob BurnCustomer = job burn 119 166
+commandJob (BurnByte offset) = job burn offset offset
+commandJob Failed = record { due = 0; last = 0; ended = failed; kind = none }
 
 abbrev pub isBusy : Job → Bool
 isBusy j = not (eqb (j .kind) none)
@@ -68,9 +67,9 @@ isBusy j = not (eqb (j .kind) none)
 abbrev pub statusOf : Job → ℕ
 statusOf j = cond (eqb (j .kind) none) (j .ended) busy
 
--- the word at 8000
-abbrev pub wordOf : Job → ℕ
-wordOf j = bitOr (j .kept) (4 * statusOf j)
+-- the word at 8000: the bits that it keeps of the command, and the status
+abbrev pub wordOf : Job → ℕ → ℕ
+wordOf j command = bitOr command (4 * statusOf j)
 
 -- the word at 0000: 2040, plus 8000 while the first load runs
 abbrev pub pmaWord : Job → ℕ
@@ -79,7 +78,7 @@ pmaWord j = cond (eqb (j .kind) first) 0xa040 0x2040
 -- reading 8000 shows done or failed, then makes it idle
 abbrev pub afterRead : Job → Register → Job
 afterRead j register.PmaControl = j
-afterRead j register.NvrControl = job (j .kept) (j .kind) (j .due) (j .last)
+afterRead j register.NvrControl = job (j .kind) (j .due) (j .last)
 afterRead j (register.Copy offset) = j
 afterRead j (register.Customer offset) = j
 afterRead j (register.Control i) = j
@@ -96,7 +95,19 @@ jobAfter j action.Silent = j
 jobAfter j (action.SetAddress a) = j
 jobAfter j action.Dropped = j
 jobAfter j action.Reset = firstLoad
-jobAfter j (action.Command word) = jobOf word
+jobAfter j (action.Command word) = commandJob (commandOf word)
 jobAfter j (action.Customer offset byte) = j
 jobAfter j (action.Control i word) = j
 jobAfter j (action.Read r increment) = afterRead j r
+
+-- the bits that 8000 keeps of the command, after a frame
+abbrev pub commandAfter : ℕ → Action → ℕ
+commandAfter command action.Refused = command
+commandAfter command action.Silent = command
+commandAfter command (action.SetAddress a) = command
+commandAfter command action.Dropped = command
+commandAfter command action.Reset = firstCommand
+commandAfter command (action.Command word) = keptBits word
+commandAfter command (action.Customer offset byte) = command
+commandAfter command (action.Control i word) = command
+commandAfter command (action.Read r increment) = command

@@ -1,6 +1,6 @@
 // Register 8000, and the job that a command starts there: a load or a burn, one byte a tick.
 ghost use mathlib.Core.Path.{_≡_};
-ghost use Rattle.jobs.specs.Job.{commandJob, isBusy, statusOf, wordOf, pmaWord, afterRead, jobAfter};
+ghost use Rattle.jobs.specs.Job.{commandJob, isBusy, statusOf, wordOf, pmaWord, afterRead, jobAfter, commandAfter};
 use action::Action;
 use nvr::command::Command;
 use nvr::command::kept_bits;
@@ -22,76 +22,71 @@ const CUSTOMER: u8 = 119;
 
 const CUSTOMER_LAST: u8 = 166;
 
+// The word at 8000 without its status, from power-on or reset on.
+pub const FIRST_COMMAND: u16 = 0x0003;
+
+// Four bytes, so that a tick and a frame carry it in one register.
 #[repr(C)]
 pub struct Job {
-    // The word at 8000 without its status.
-    pub kept: u16,
-    pub kind: u8,
     // The offset due, and the job's last one.
     pub due: u8,
     pub last: u8,
     // The status that the latest job left, 1 done or 3 failed; 0, idle, once 8000 was read.
     pub ended: u8,
+    pub kind: u8,
 }
 
 impl Job {
-    // No job, and the word at 8000 zero: a module that was never powered.
+    // No job: a module that was never powered.
     pub const IDLE: Job = Job {
-        kept: 0,
-        kind: NONE,
         due: 0,
         last: 0,
         ended: 0,
+        kind: NONE,
     };
 
-    // What power-on and reset start: 8000 reads 000B.
+    // What power-on and reset start.
     pub const FIRST_LOAD: Job = Job {
-        kept: 0x0003,
-        kind: FIRST,
         due: 0,
         last: LAST,
         ended: 0,
+        kind: FIRST,
     };
 
-    // The job of a command, with the bits that 8000 keeps.
-    fn by(command: Command, kept: u16) -> Job
-        ensures { λ r. ⌜ r ≡ commandJob command kept ⌝ }
+    // The job of a command.
+    fn by(command: Command) -> Job
+        ensures { λ r. ⌜ r ≡ commandJob command ⌝ }
     {
         match command {
             Command::LoadAll => Job {
-                kept: kept,
-                kind: LOAD,
                 due: 0,
                 last: LAST,
                 ended: 0,
+                kind: LOAD,
             },
             Command::LoadByte(offset) => Job {
-                kept: kept,
-                kind: LOAD,
                 due: offset,
                 last: offset,
                 ended: 0,
+                kind: LOAD,
             },
             Command::BurnCustomer => Job {
-                kept: kept,
-                kind: BURN,
                 due: CUSTOMER,
                 last: CUSTOMER_LAST,
                 ended: 0,
+                kind: BURN,
             },
             Command::BurnByte(offset) => Job {
-                kept: kept,
-                kind: BURN,
                 due: offset,
                 last: offset,
                 ended: 0,
+                kind: BURN,
             },
             Command::Failed => Job {
-                kept: kept,
-                kind: NONE,
                 due: 0,
                 last: 0,
                 ended: 3,
+                kind: NONE,
             },
         }
     }
@@ -109,11 +104,11 @@ impl Job {
         if self.kind == NONE { self.ended } else { 2 }
     }
 
-    // The word at 8000 as it reads.
-    pub fn word(self) -> u16
-        ensures { λ r. ⌜ r ≡ wordOf self ⌝ }
+    // The word at 8000 as it reads, by the bits that it keeps of the command.
+    pub fn word(self, command: u16) -> u16
+        ensures { λ r. ⌜ r ≡ wordOf self command ⌝ }
     {
-        self.kept | 4 * (self.status() as u16)
+        command | 4 * (self.status() as u16)
     }
 
     // The word at 0000: 8000 is added while the first load runs.
@@ -146,9 +141,20 @@ impl Job {
     {
         match action {
             Action::Reset => Job::FIRST_LOAD,
-            Action::Command(word) => Job::by(Command::of(word), kept_bits(word)),
+            Action::Command(word) => Job::by(Command::of(word)),
             Action::Read(register, _) => self.after_read(register),
             _ => self,
         }
+    }
+}
+
+// What 8000 keeps of the command, after a frame.
+pub fn command_after(command: u16, action: Action) -> u16
+    ensures { λ r. ⌜ r ≡ commandAfter command action ⌝ }
+{
+    match action {
+        Action::Reset => FIRST_COMMAND,
+        Action::Command(word) => kept_bits(word),
+        _ => command,
     }
 }

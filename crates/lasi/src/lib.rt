@@ -66,15 +66,19 @@ pub fn status_at(a: Alarms, i: u8) -> u16
     }
 }
 
-// A070, A071, A074, A075.
+// A070, A071, A074, A075. All four are read before one is chosen: a choice among addresses would hold the alarms in memory.
 pub fn flags_at(a: Alarms, i: u8) -> u16
     ensures { λ r. ⌜ r ≡ flagsAt a i ⌝ }
 {
+    let txalarm = a.txalarm.value();
+    let rxalarm = a.rxalarm.value();
+    let txwarning = a.txwarning.value();
+    let rxwarning = a.rxwarning.value();
     match i {
-        0 => a.txalarm.value(),
-        1 => a.rxalarm.value(),
-        2 => a.txwarning.value(),
-        3 => a.rxwarning.value(),
+        0 => txalarm,
+        1 => rxalarm,
+        2 => txwarning,
+        3 => rxwarning,
         _ => 0,
     }
 }

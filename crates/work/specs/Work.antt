@@ -17,8 +17,8 @@ workOf powered j =
 abbrev pub advanced : Job → Job
 advanced j =
     cond (ltb (j .due) (j .last))
-    (record { kept = j .kept; kind = j .kind; due = j .due + 1; last = j .last; ended = j .ended })
-    (record { kept = j .kept; kind = none; due = j .due; last = j .last; ended = done })
+    (record { due = j .due + 1; last = j .last; ended = j .ended; kind = j .kind })
+    (record { due = j .due; last = j .last; ended = done; kind = none })
 
 -- after a tick
 abbrev pub afterWork : Job → Work → Job

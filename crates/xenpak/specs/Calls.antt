@@ -3,7 +3,7 @@
 use Prim.Native.Nat.{ℕ}
 use mathlib.Core.Bool.{Bool, true, false}
 use mathlib.Core.List.{List}
-use Rattle.jobs.specs.Job.{firstLoad}
+use Rattle.jobs.specs.Job.{firstLoad, firstCommand}
 use Rattle.work.specs.Work.{workOf, afterWork}
 use Rattle.work.specs.declared.Work.{Work}
 use Rattle.store.specs.Bytes.{tickAnswer, loadedCopy, burnedStore, tornStore, zeros}
@@ -49,6 +49,7 @@ started powered alarms m =
       powered = powered;
       port = m .port;
       thresholds = m .thresholds;
+      command = firstCommand;
       bus = noBus;
       alarms = alarms;
       monitor = noMonitor;
@@ -72,6 +73,7 @@ afterCut m cut =
       powered = false;
       port = m .port;
       thresholds = m .thresholds;
+      command = m .command;
       bus = m .bus;
       alarms = m .alarms;
       monitor = m .monitor;
@@ -92,6 +94,7 @@ tickBy m w =
             powered = m .powered;
             port = m .port;
             thresholds = m .thresholds;
+            command = m .command;
             bus = m .bus;
             alarms = m .alarms;
             monitor = m .monitor;
@@ -112,6 +115,7 @@ withAlarms alarms monitor m =
       powered = m .powered;
       port = m .port;
       thresholds = m .thresholds;
+      command = m .command;
       bus = m .bus;
       alarms = alarms;
       monitor = monitor;

@@ -2,21 +2,21 @@
 -- Assumes nothing.
 use Prim.Native.Nat.{ℕ}
 use Rattle.registers.specs.declared.Register.{Register}
-use Rattle.action.specs.Action.{actionOf, registerOf}
+use Rattle.action.specs.Action.{actionOf}
 use Rattle.action.specs.declared.Action.{Action}
-use Rattle.jobs.specs.Job.{isBusy, jobAfter}
+use Rattle.jobs.specs.Job.{isBusy, jobAfter, commandAfter}
 use Rattle.store.specs.Bytes.{writtenCopy}
 use Rattle.monitor.specs.Monitor.{monitorAfter}
 use Rattle.alarms.specs.Alarms.{alarmsAfter}
 use Rattle.answers.specs.Answers.{frameAnswer}
-use Rattle.values.specs.Values.{registerValue}
+use Rattle.values.specs.Values.{registerOf, registerByte, registerValue}
 use Rattle.bus.specs.Bus.{busAfter}
 use Rattle.xenpak.specs.declared.Module.{Module}
 use Rattle.xenpak.specs.declared.FrameOutcome.{FrameOutcome}
 
 -- what a register reads
 abbrev pub valueAt : Module → Register → ℕ
-valueAt m r = registerValue r (m .copy) (m .thresholds) (m .job) (m .alarms) (m .monitor)
+valueAt m r = registerValue r (registerByte r (m .copy) (m .thresholds)) (m .job) (m .command) (m .alarms) (m .monitor)
 
 -- each part after a frame
 abbrev pub moduleAfter : Module → Action → Module
@@ -28,6 +28,7 @@ moduleAfter m a =
       powered = m .powered;
       port = m .port;
       thresholds = m .thresholds;
+      command = commandAfter (m .command) a;
       bus = busAfter (m .bus) a;
       alarms = alarmsAfter (m .alarms) a;
       monitor = monitorAfter (m .monitor) a;

@@ -12,14 +12,17 @@ use answers::TickAnswer;
 use bus::Bus;
 use dom::Sample;
 use flags::flags_of;
+use jobs::FIRST_COMMAND;
 use jobs::Job;
+use jobs::command_after;
 use monitor::Monitor;
 use store::Cut;
 use store::move_byte;
 use store::tear;
 use store::write_copy;
 use thresholds::thresholds_of;
-use values::register_value;
+use values::byte_read;
+use values::value_read;
 use work::after_work;
 use work::work_of;
 
@@ -31,6 +34,8 @@ pub struct Module {
     pub powered: bool,
     pub port: u8,
     pub thresholds: [u8; 40],
+    // The word at 8000 without its status.
+    pub command: u16,
     pub bus: Bus,
     pub alarms: Alarms,
     pub monitor: Monitor,
@@ -84,6 +89,7 @@ impl Module {
             powered: powered,
             port: self.port,
             thresholds: thresholds,
+            command: FIRST_COMMAND,
             bus: Bus::ZERO,
             alarms: alarms,
             monitor: Monitor::NONE,
@@ -161,6 +167,7 @@ impl Module {
         ensures { λ r. ⌜ r ≡ moduleAfter self action ⌝ }
     {
         self.job = self.job.after(action);
+        self.command = command_after(self.command, action);
         self.bus = self.bus.after(action);
         self.alarms = self.alarms.after(action);
         self.monitor = self.monitor.after(action);
@@ -177,13 +184,14 @@ impl Module {
         let job = self.job;
         let busy = job.busy();
         let action = decide(self.powered, self.port, self.bus.address, busy, word);
-        let register = action.register();
         let copy = self.copy;
         let thresholds = self.thresholds;
-        let value = register_value(register, &copy, &thresholds, job, self.alarms, self.monitor);
+        let byte = byte_read(action, &copy, &thresholds);
+        let value = value_read(action, byte, job, self.command, self.alarms, self.monitor);
+        let answer = FrameAnswer::of(action, value);
         FrameOutcome {
             next: self.after(action),
-            answer: FrameAnswer::of(action, value),
+            answer: answer,
         }
     }
 }

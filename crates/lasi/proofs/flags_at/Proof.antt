@@ -15,8 +15,10 @@ flags-at-spec =
     (λ c κs. search needs)
     (λ c κs. search needs)
     (λ c κs. search needs)
-    (λ c. rw (c .value .ensures, c .before .match .keys1))
-    (λ c. rw (c .value2 .ensures, c .before .match .keys2))
-    (λ c. rw (c .value3 .ensures, c .before .match .keys3))
-    (λ c. rw (c .value4 .ensures, c .before .match .keys4))
-    (λ c. let past : c .before .args .i ≡ suc (suc (suc (suc (c .before .args .i - 4)))) = omega (arith, c .match .rest) in rw (past)))
+    (λ c. rw (c .before .before .before .before .value .ensures, c .match .keys1))
+    (λ c. rw (c .before .before .before .value2 .ensures, c .match .keys2))
+    (λ c. rw (c .before .before .value3 .ensures, c .match .keys3))
+    (λ c. rw (c .before .value4 .ensures, c .match .keys4))
+    (λ c.
+    let i : _ = c .before .before .before .before .before .args .i in
+    let past : i ≡ suc (suc (suc (suc (i - 4)))) = omega (arith, c .match .rest) in rw (past)))

@@ -11,4 +11,4 @@ word-spec =
     (λ c κs. search needs)
     (λ c. search needs)
     (λ c. search needs)
-    (λ c. rw (c .before .status .ensures)))
+    (λ c. rw (c .status .ensures)))

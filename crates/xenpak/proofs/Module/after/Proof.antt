@@ -13,4 +13,5 @@ after-spec =
     (λ c κs. search needs)
     (λ c κs. search needs)
     (λ c κs. search needs)
-    (λ c. rw (c .write-copy .ensures, c .before .before .before .after4 .ensures, c .before .before .before .before .after3 .ensures, c .before .before .before .before .before .after2 .ensures, c .before .before .before .before .before .before .after .ensures)))
+    (λ c κs. search needs)
+    (λ c. rw (c .write-copy .ensures, c .before .before .before .after4 .ensures, c .before .before .before .before .after3 .ensures, c .before .before .before .before .before .after2 .ensures, c .before .before .before .before .before .before .command-after .ensures, c .before .before .before .before .before .before .before .after .ensures)))

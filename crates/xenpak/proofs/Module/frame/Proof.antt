@@ -16,4 +16,4 @@ frame-spec =
     (λ c κs. search needs)
     (λ c κs. search needs)
     (λ c κs. search needs)
-    (λ c. rw (c .of .ensures, c .before .after .ensures, c .before .before .register-value .ensures, c .before .before .before .before .before .before .before .register .ensures, c .before .before .before .before .before .before .before .before .decide .ensures, c .before .before .before .before .before .before .before .before .before .busy .ensures)))
+    (λ c. rw (c .after .ensures, c .before .of .ensures, c .before .before .value-read .ensures, c .before .before .before .byte-read .ensures, c .before .before .before .before .before .before .before .before .decide .ensures, c .before .before .before .before .before .before .before .before .before .busy .ensures)))
