@@ -25,6 +25,7 @@ pub struct Alarms {
 
 // What a lines call gives: receive and transmit faults, and the three link levels, signal detect, block lock and lane
 // alignment.
+#[repr(C)]
 pub struct Lines {
     pub receive: u16,
     pub transmit: u16,

@@ -1,9 +1,9 @@
 // What each call answers.
 ghost use mathlib.Core.Path.{_≡_};
-ghost use Rattle.answers.specs.Answers.{creationAnswer, powerOnAnswer, callAnswer, frameAnswer};
+ghost use Rattle.answers.specs.Answers.{refusalNumber, creationAnswer, powerOnAnswer, callAnswer, frameAnswer};
 use action::Action;
 
-// Why a call is refused; `refusalNumber` in specs/ has document 01's number of each.
+// Why a call is refused.
 pub enum Refusal {
     Port,
     ImageLength,
@@ -42,6 +42,24 @@ pub enum TickAnswer {
 pub enum SettleAnswer {
     Ticks(u32),
     Refused(Refusal),
+}
+
+impl Refusal {
+    // Document 01's number of the refusal.
+    pub fn number(self) -> u8
+        ensures { λ r. ⌜ r ≡ refusalNumber self ⌝ }
+    {
+        match self {
+            Refusal::Port => 1,
+            Refusal::ImageLength => 2,
+            Refusal::ThresholdsLength => 3,
+            Refusal::Checksum => 4,
+            Refusal::ThresholdOrder => 5,
+            Refusal::Temperature => 6,
+            Refusal::PoweredOff => 7,
+            Refusal::PoweredOn => 8,
+        }
+    }
 }
 
 impl Answer {

@@ -1,0 +1,3 @@
+-- The laws that the proofs of `firmware` cite.
+pub mod Lent
+pub mod Outcomes
