@@ -25,17 +25,7 @@ pub fn number(n: u32) {
 
 // Document 01's number of a refusal.
 fn refusal(why: Refusal) {
-    let n = match why {
-        Refusal::Port => 1,
-        Refusal::ImageLength => 2,
-        Refusal::ThresholdsLength => 3,
-        Refusal::Checksum => 4,
-        Refusal::ThresholdOrder => 5,
-        Refusal::Temperature => 6,
-        Refusal::PoweredOff => 7,
-        Refusal::PoweredOn => 8,
-    };
-    number(n);
+    number(why.number() as u32);
 }
 
 pub fn plain(answer: Answer, asks: bool) {
