@@ -271,7 +271,7 @@ static struct xenpak_module prepared(const struct timed *t) {
 }
 
 static uint32_t repeat(const struct version *v, const struct timed *t, uint32_t times) {
-    struct xenpak_module m = prepared(t);
+    _Alignas(64) struct xenpak_module m = prepared(t);
     uint32_t sum = 0;
     for (uint32_t i = 0; t->call == TICK && i < times; i++) {
         if (m.job.due == 255) m.job.due = 0;

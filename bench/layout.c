@@ -124,12 +124,12 @@ struct row {
         ROW(module, alarms.name.since, since, where, 0x0321, 0xfcde)
 
 static const struct row rows[] = {
-    ROW(module, store, stored, 0, 0x5a, 0xa5),
+    ROW(module, copy, value, 0x8007, 0x5a, 0xa5),
     ROW(module, job.due, due, 1, 17, 200),
     ROW(module, job.last, last, 1, 17, 200),
     ROW(module, job.ended, status, 0x8000, 1, 3),
     ROW(module, job.kind, kind, 0, 1, 2),
-    ROW(module, copy, value, 0x8007, 0x5a, 0xa5),
+    ROW(module, store, stored, 0, 0x5a, 0xa5),
     ROW(module, powered, powered, 0, 0, 1),
     ROW(module, port, port, 0, 21, 10),
     ROW(module, thresholds, value, 0xa000, 0x5a, 0xa5),

@@ -71,9 +71,9 @@ pub struct Monitor {
 
 #[repr(C)]
 pub struct Module {
-    store: [u8; 256],
-    job: Job,
     copy: [u8; 256],
+    job: Job,
+    store: [u8; 256],
     powered: bool,
     port: u8,
     thresholds: [u8; 40],

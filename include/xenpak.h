@@ -72,9 +72,9 @@ struct xenpak_monitor {
 
 /* A module. `command` is the word at 8000 without its status. */
 struct xenpak_module {
-    uint8_t store[256];
-    struct xenpak_job job;
     uint8_t copy[256];
+    struct xenpak_job job;
+    uint8_t store[256];
     bool powered;
     uint8_t port;
     uint8_t thresholds[40];

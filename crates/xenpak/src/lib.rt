@@ -28,9 +28,9 @@ use work::work_of;
 
 #[repr(C)]
 pub struct Module {
-    pub store: [u8; 256],
-    pub job: Job,
     pub copy: [u8; 256],
+    pub job: Job,
+    pub store: [u8; 256],
     pub powered: bool,
     pub port: u8,
     pub thresholds: [u8; 40],
