@@ -23,7 +23,7 @@ BY_VALUE(library_make,
          xenpak_make(port, image, image_size, thresholds, thresholds_size))
 BY_VALUE(library_power_on, (struct xenpak_module * m), xenpak_power_on(*m))
 BY_VALUE(library_cut, (struct xenpak_module * m), xenpak_cut(*m))
-BY_VALUE(library_cut_struck, (struct xenpak_module * m, uint8_t byte), xenpak_cut_struck(*m, byte))
+BY_VALUE(library_cut_torn, (struct xenpak_module * m, uint8_t byte), xenpak_cut_torn(*m, byte))
 BY_VALUE(library_reset_pin, (struct xenpak_module * m), xenpak_reset_pin(*m))
 BY_VALUE(library_lines, (struct xenpak_module * m, struct xenpak_lines given), xenpak_lines(*m, given))
 BY_VALUE(library_sample, (struct xenpak_module * m, struct xenpak_sample given), xenpak_sample(*m, given))
@@ -48,7 +48,7 @@ struct version {
     uint32_t (*make)(struct xenpak_module *, uint8_t, const uint8_t *, size_t, const uint8_t *, size_t);
     uint32_t (*power_on)(struct xenpak_module *);
     uint32_t (*cut)(struct xenpak_module *);
-    uint32_t (*cut_struck)(struct xenpak_module *, uint8_t);
+    uint32_t (*cut_torn)(struct xenpak_module *, uint8_t);
     uint32_t (*reset_pin)(struct xenpak_module *);
     uint32_t (*lines)(struct xenpak_module *, struct xenpak_lines);
     uint32_t (*sample)(struct xenpak_module *, struct xenpak_sample);
@@ -61,7 +61,7 @@ struct version {
 #define VERSION(name, entry)                                                                                           \
     {                                                                                                                  \
         #name, entry##_frame, entry##_tick, entry##_tenths, name##_make, name##_power_on, name##_cut,                  \
-            name##_cut_struck, name##_reset_pin, name##_lines, name##_sample, name##_settle, name##_line,              \
+            name##_cut_torn, name##_reset_pin, name##_lines, name##_sample, name##_settle, name##_line,              \
             name##_counter, name##_stored                                                                              \
     }
 
@@ -69,10 +69,10 @@ enum { VERSIONS = 3 };
 
 static const struct version versions[VERSIONS] = {VERSION(library, xenpak), VERSION(plain, plain), VERSION(rust, rust)};
 
-enum name { FRAME, TICK, LINES, SAMPLE, SETTLE, RESET, CUT, STRIKE, POWER_ON, MAKE, LINE, COUNTER, STORED, TENTHS };
+enum name { FRAME, TICK, LINES, SAMPLE, SETTLE, RESET, CUT, CUT_TORN, POWER_ON, MAKE, LINE, COUNTER, STORED, TENTHS };
 
-static const char *const names[] = {"frame",  "tick",     "lines", "sample", "settle",  "reset pin", "cut",
-                                    "strike", "power-on", "make",  "line",   "counter", "stored",    "tenths"};
+static const char *const names[] = {"frame",    "tick",     "lines", "sample", "settle",  "reset pin", "cut",
+                                    "cut torn", "power-on", "make",  "line",   "counter", "stored",    "tenths"};
 
 /* A call with what it is given. `number` is a frame's word, a budget, a byte, a port, an offset or a code. */
 struct call {
@@ -94,7 +94,7 @@ static uint32_t answer(const struct version *v, struct xenpak_module *m, const s
     case SETTLE: return v->settle(m, c->number);
     case RESET: return v->reset_pin(m);
     case CUT: return v->cut(m);
-    case STRIKE: return v->cut_struck(m, c->number);
+    case CUT_TORN: return v->cut_torn(m, c->number);
     case POWER_ON: return v->power_on(m);
     case MAKE: return v->make(m, c->number, c->image, c->image_size, c->thresholds, c->thresholds_size);
     case LINE: return v->line(m);

@@ -48,7 +48,7 @@ uint32_t plain_cut(struct xenpak_module *m) {
     return 0;
 }
 
-uint32_t plain_cut_struck(struct xenpak_module *m, uint8_t byte) {
+uint32_t plain_cut_torn(struct xenpak_module *m, uint8_t byte) {
     if (!m->powered) return refused(XENPAK_POWERED_OFF);
     if (m->job.kind == BURN) m->store[m->job.due] = byte;
     m->powered = false;

@@ -8,7 +8,7 @@
                          const uint8_t *thresholds, size_t thresholds_size);                                           \
     uint32_t name##_power_on(struct xenpak_module *m);                                                                 \
     uint32_t name##_cut(struct xenpak_module *m);                                                                      \
-    uint32_t name##_cut_struck(struct xenpak_module *m, uint8_t byte);                                                 \
+    uint32_t name##_cut_torn(struct xenpak_module *m, uint8_t byte);                                                 \
     uint32_t name##_reset_pin(struct xenpak_module *m);                                                                \
     uint32_t name##_frame(struct xenpak_module *m, uint32_t word);                                                     \
     uint32_t name##_tick(struct xenpak_module *m);                                                                     \

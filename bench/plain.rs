@@ -337,7 +337,7 @@ pub extern "C" fn rust_cut(m: &mut Module) -> u32 {
 }
 
 #[no_mangle]
-pub extern "C" fn rust_cut_struck(m: &mut Module, byte: u8) -> u32 {
+pub extern "C" fn rust_cut_torn(m: &mut Module, byte: u8) -> u32 {
     if m.powered && m.job.kind == BURN {
         m.store[m.job.due as usize] = byte;
     }

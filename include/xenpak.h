@@ -156,9 +156,9 @@ struct xenpak_called xenpak_power_on(struct xenpak_module m);
    Refused with 7 when off. */
 struct xenpak_called xenpak_cut(struct xenpak_module m);
 
-/* A cut that strikes: where a burn is due, the byte goes to the offset due.
+/* A torn cut (document 01: struck): where a burn is due, the byte goes to the offset due.
    Refused with 7 when off. */
-struct xenpak_called xenpak_cut_struck(struct xenpak_module m, uint8_t byte);
+struct xenpak_called xenpak_cut_torn(struct xenpak_module m, uint8_t byte);
 
 /* The reset pin: the first load starts, the lines stay.
    Refused with 7 when off. */

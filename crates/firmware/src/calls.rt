@@ -100,9 +100,9 @@ pub extern "C" fn xenpak_cut(m: Module) -> Called
     Called::by(m.power_cut(Cut::Clean))
 }
 
-// A cut that strikes with a byte.
+// A torn cut, with its byte.
 #[no_mangle]
-pub extern "C" fn xenpak_cut_struck(m: Module, byte: u8) -> Called
+pub extern "C" fn xenpak_cut_torn(m: Module, byte: u8) -> Called
     ensures { λ r. ⌜ r ≡ calledBy (powerCut m (Torn byte)) ⌝ }
 {
     Called::by(m.power_cut(Cut::Torn(byte)))
