@@ -22,5 +22,6 @@ answerWord s = s .refusal * 0x1000000 + s .which * 0x10000 + valueOf (s .values)
 abbrev pub calledBy : Outcome → Called
 calledBy o = record { next = o .next; refusal = saidPlain (o .answer) .refusal }
 
+-- the outcome of settling
 abbrev pub settledBy : SettleOutcome → Settled
 settledBy o = record { next = o .next; ticks = valueOf (saidSettle (o .answer) .values); refusal = saidSettle (o .answer) .refusal }
