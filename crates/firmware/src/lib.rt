@@ -74,10 +74,7 @@ fn frame_word(answer: FrameAnswer) -> u32
 pub extern "C" fn xenpak_tick(m: &mut Module) -> u32
     ensures { λ r. ⌜ (r ≡ answerWord (saidTick (tick (now (m .entry)) .answer))) × (now (m .exit) ≡ tick (now (m .entry)) .next) ⌝ }
 {
-    let r = (*m).tick();
-    *m = r.next;
-    let answer = r.answer;
-    tick_word(answer)
+    tick_word(tick(m))
 }
 
 // A frame to a lent record, for C.
@@ -85,8 +82,5 @@ pub extern "C" fn xenpak_tick(m: &mut Module) -> u32
 pub extern "C" fn xenpak_frame(m: &mut Module, word: u32) -> u32
     ensures { λ r. ⌜ (r ≡ answerWord (saidFrame (frame (now (m .entry)) word .answer))) × (now (m .exit) ≡ frame (now (m .entry)) word .next) ⌝ }
 {
-    let r = (*m).frame(word);
-    *m = r.next;
-    let answer = r.answer;
-    frame_word(answer)
+    frame_word(frame(m, word))
 }

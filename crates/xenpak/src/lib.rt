@@ -129,9 +129,9 @@ impl Module {
         ensures { λ r. ⌜ r ≡ tick self ⌝ }
     {
         let work = work_of(self.job, self.powered);
-        self.job = after_work(self.job, work);
         let mut store = self.store;
         let mut copy = self.copy;
+        self.job = after_work(self.job, work);
         let answer = move_byte(&mut store, &mut copy, work);
         self.store = store;
         self.copy = copy;
