@@ -4,6 +4,8 @@ use mathlib.Core.Path.{ap}
 use mathlib.Core.List.{[], _∷_}
 use denote.Steps.{only}
 use denote.Struct.Laws as struct
+use denote.Enum.Enum.{Few, Plainss, layout}
+use denote.Enum.Declared.{Declared, variants, shape, row}
 use denote.Enum.Laws as enum
 use Rattle.answers.proofs.TickAnswer as Tick
 use Rattle.answers.proofs.TickAnswer.Laws as Tick′
@@ -15,16 +17,20 @@ use Rattle.xenpak.proofs.FrameOutcome as Framed
 use Rattle.xenpak.proofs.FrameOutcome.Laws as Framed′
 use Rattle.firmware.proofs.Lent.{AnswerType, Outcome}
 
-abbrev pub tick-answer : AnswerType
-tick-answer =
+-- an answer, which is an enum
+abbrev answerType : (T : Declared) → enum.Laws T → Plainss (variants T) → Few (shape T) → AnswerType
+answerType T laws plain few =
     record {
-      ty = Tick′.mir;
-      row = Tick.the-row;
-      value = enum.val Tick.the-type Tick′.the-laws;
-      tells = λ a v is. ap only (enum.tells Tick.the-type Tick′.the-laws a (v ∷ []) is);
-      typed = λ 𝓤 H A W a v is. enum.lawful Tick.the-type Tick′.the-laws 𝓤 H A W tt .typed a _ is .0;
-      made = λ 𝓤 H A. enum.makes Tick.the-type Tick′.the-plain 𝓤 H A;
+      ty = layout (shape T);
+      row = row T;
+      value = enum.val T laws;
+      tells = λ a v is. ap only (enum.tells T laws a (v ∷ []) is);
+      typed = λ 𝓤 H A W a v is. enum.lawful T laws 𝓤 H A W few .typed a _ is .0;
+      made = enum.makes T plain;
     }
+
+abbrev pub tick-answer : AnswerType
+tick-answer = answerType Tick.the-type Tick′.the-laws Tick′.the-plain tt
 
 abbrev pub tick-outcome : Outcome
 tick-outcome =
@@ -41,15 +47,7 @@ tick-outcome =
     }
 
 abbrev pub frame-answer : AnswerType
-frame-answer =
-    record {
-      ty = Frame′.mir;
-      row = Frame.the-row;
-      value = enum.val Frame.the-type Frame′.the-laws;
-      tells = λ a v is. ap only (enum.tells Frame.the-type Frame′.the-laws a (v ∷ []) is);
-      typed = λ 𝓤 H A W a v is. enum.lawful Frame.the-type Frame′.the-laws 𝓤 H A W tt .typed a _ is .0;
-      made = λ 𝓤 H A. enum.makes Frame.the-type Frame′.the-plain 𝓤 H A;
-    }
+frame-answer = answerType Frame.the-type Frame′.the-laws Frame′.the-plain tt
 
 abbrev pub frame-outcome : Outcome
 frame-outcome =
