@@ -1,4 +1,4 @@
--- What the entries over a lent record do, each walked once: `let r = g(*m, ..); *m = r.next;` is `updates`, `w(g(..))` is `codes`,
+-- What the entries over a lent record do, each walked once: `let r = g(*m, ..); *m = r.next; r.answer` is `updates`, `w(g(..))` is `codes`,
 -- whatever the further arguments and what follows. All that is known of g and w is that they meet their contracts.
 -- Assumes nothing.
 use mathlib.Core.Path.{_≡_, refl, sym, subst}
@@ -82,31 +82,33 @@ module _ {M : Type 1} {𝓤 : URA M} {H : Heap 𝓤} {A : Atoms 𝓤} {K : Type 
   found t {Γ} {i} {st} {lies} {sp} e w = from t (subst (λ (z : Spot 𝓤 H). Walks K W Γ E z st sp) (sym e) w)
 
 module _ {M : Type 1} {𝓤 : URA M} {H : Heap 𝓤} {A : Atoms 𝓤} {K : Type 0} {W : Given 𝓤 H A} {C : Calls 𝓤 H} {Λ : Loops 𝓤 H} {E : Env 𝓤 H} {q : Post 𝓤 H} {Γ : List (Item 𝓤)} where
-  -- local i is the reference, local j takes the outcome, local k the record that is passed to g; the rest of g's arguments
-  -- are the operands xs. `given` is what g gives, by its contract G; `after` walks what follows, the outcome at hand
-  pub updates : K → FmC 𝓤 H (W .laws) C → (R : Outcome) {κ : Lft} {s : Share} {γ : GName} (b o : ℕ) (h : Module) {i j k l₁ l₂ l₃ : ℕ}
-      → spotOf 𝓤 H E i ≡ (lentTy, l₁, zero) → spotOf 𝓤 H E j ≡ (outcomeTy R, l₂, zero) → spotOf 𝓤 H E k ≡ (T′.mir, l₃, zero)
+  -- local i is the reference, local j takes the outcome, local k the record that is passed to g, local 0 the answer; the rest of g's
+  -- arguments are the operands xs. `given` is what g gives, by its contract G; `after` walks what follows, the outcome at hand
+  pub updates : K → FmC 𝓤 H (W .laws) C → (R : Outcome) {κ : Lft} {s : Share} {γ : GName} (b o : ℕ) (h : Module) {i j k l₀ l₁ l₂ l₃ : ℕ}
+      → spotOf 𝓤 H E i ≡ (lentTy, l₁, zero) → spotOf 𝓤 H E j ≡ (outcomeTy R, l₂, zero) → spotOf 𝓤 H E k ≡ (T′.mir, l₃, zero) → spotOf 𝓤 H E zero ≡ (R .Answer .ty, l₀, zero)
       → {g : Name} {xs : List Opd} {rest : Body} (G : Contract 𝓤) → Triple 𝓤 (C g) G → (y : G .Ghost)
-      → ((i₀ i₁ i₂ i₃ i₄ i₅ i₆ : Item 𝓤) → Opds K W (i₀ ∷ i₁ ∷ i₂ ∷ i₃ ∷ i₄ ∷ ‵ (fat fullShare T′.mir l₃ zero (val h)) ∷ i₅ ∷ i₆ ∷ Γ) E (copy (place k []) ∷ xs) (G .args y))
+      → ((i₀ i₁ i₂ i₃ i₄ i₅ i₆ i₇ : Item 𝓤) → Opds K W (i₀ ∷ i₁ ∷ i₂ ∷ i₃ ∷ i₄ ∷ ‵ (fat fullShare T′.mir l₃ zero (val h)) ∷ i₅ ∷ i₆ ∷ i₇ ∷ Γ) E (copy (place k []) ∷ xs) (G .args y))
       → ent 𝓤 (sem 𝓤 H A (T.the-row .own h (val h ∷ []))) (G .pre y)
       → {L : Type 0} (Lasts : L → SProp 𝓤) (given : R .Result .Denot)
       → ((v : Val) → ent 𝓤 (G .post y v) (H .⇛ (ex 𝓤 (λ (r : R .Result .Denot). sep 𝓤 (sep 𝓤 (emp 𝓤) (sem 𝓤 H A (R .Result .own r (v ∷ [])))) (ex 𝓤 (λ (ws : L). sep 𝓤 (Lasts ws) (fact 𝓤 (r ≡ given))))))))
       → ((r : R .Result .Denot) → r ≡ given → Is (R .Answer .row) (R .answer r) (R .Answer .value (R .answer r) ∷ [])
       → Seq K W (‵ (fobs γ (T.the-row .coded .code (R .next r))) ∷ ‵ (fbor κ (Borrowed (mem T.the-row) b o γ)) ∷ ‵ (flft κ s)
-      ∷ ‵ (fat fullShare T′.mir l₃ zero (val h)) ∷ ‵ (fat fullShare (outcomeTy R) l₂ zero (outcomeVal R r)) ∷ ‵ (fat fullShare lentTy l₁ zero (vptr b o)) ∷ Γ)
+      ∷ ‵ (fat fullShare T′.mir l₃ zero (val h)) ∷ ‵ (fat fullShare (outcomeTy R) l₂ zero (outcomeVal R r)) ∷ ‵ (fat fullShare lentTy l₁ zero (vptr b o))
+      ∷ ‵ (fat fullShare (R .Answer .ty) l₀ zero (R .Answer .value (R .answer r))) ∷ Γ)
       (runs C Λ E rest q))
       → Seq K W (‵ (fobs γ (T.the-row .coded .code h)) ∷ ‵ (fbor κ (Borrowed (mem T.the-row) b o γ)) ∷ ‵ (flft κ s)
-      ∷ ‵ (froom T′.mir l₃ zero) ∷ ‵ (froom (outcomeTy R) l₂ zero) ∷ ‵ (fat fullShare lentTy l₁ zero (vptr b o)) ∷ Γ)
+      ∷ ‵ (froom T′.mir l₃ zero) ∷ ‵ (froom (outcomeTy R) l₂ zero) ∷ ‵ (fat fullShare lentTy l₁ zero (vptr b o)) ∷ ‵ (froom (R .Answer .ty) l₀ zero) ∷ Γ)
       (runs C Λ E
       (seq (assign (place k []) (rvOpd (copy (place i (deref T′.mir ∷ [])))))
       (seq (call g (copy (place k []) ∷ xs) (place j []))
-      (seq (assign (place i (deref T′.mir ∷ [])) (rvOpd (copy (place j (field 0 ∷ []))))) rest))) q)
-  updates t fm R b o h {l₂ = l₂} lent out passed G known y ops goes {L} Lasts given back after =
+      (seq (assign (place i (deref T′.mir ∷ [])) (rvOpd (copy (place j (field 0 ∷ [])))))
+      (seq (assign (place zero []) (rvOpd (copy (place j (field 1 ∷ []))))) rest)))) q)
+  updates t fm R b o h {l₂ = l₂} lent out passed answered G known y ops goes {L} Lasts given back after =
       opens t tt T.the-row {h = h} b o (λ vs. spelt t T.the-row (Is T.the-row) (shows 𝓤 H A T.the-row) (LL.vals T.the-type T′.the-laws) (LL.tells T.the-type T′.the-laws) fullShare h vs b o $
       move t (1 ∷ []) $ peeks t T.the-row (Is T.the-row) (shows 𝓤 H A T.the-row) h (val h ∷ []) (λ was. move t (1 ∷ 0 ∷ []) $
       -- [the record's cell; what it owns; the open borrow; obs; auth; k; j; i; …]
       assigns t (of-opd t (load t (found t lent (hop t (look t 7 refl) (stop t))) (look-raw t 0 refl))) (found t passed (stop t)) (init t 5 refl (LL.lawful T.the-type T′.the-laws 𝓤 H A W .typed h _ was .0)) $
-      move t (1 ∷ []) $ use1 W (raw (G .pre y)) goes $ calls-at t fm G known y (ops _ _ _ _ _ _ _) (λ v.
+      move t (1 ∷ []) $ use1 W (raw (G .pre y)) goes $ calls-at t fm G known y (ops _ _ _ _ _ _ _ _) (λ v.
       use1 W (later (some (λ (r : R .Result .Denot). (‵ ftrue ⊛ ‵ (R .Result .own r (v ∷ []))) ⊛ some (λ (ws : L). raw (Lasts ws) ⊛ raw (fact 𝓤 (r ≡ given)))))) (back v) $ await t tt $ pick t (λ r.
       split t $ move t (1 ∷ []) $ pick t (λ ws. split t $ drop t $ heard t (r ≡ given) (λ e. split t $ drop t $
       peeks t (R .Result) (Is (R .Result)) (shows 𝓤 H A (R .Result)) r (v ∷ []) (λ is.
@@ -115,7 +117,8 @@ module _ {M : Type 1} {𝓤 : URA M} {H : Heap 𝓤} {A : Atoms 𝓤} {K : Type 
       assigns t (of-opd t (load t (found t out (fld t refl (stop t))) (look-in t 6 (sub t 0 refl (whole t))))) (found t lent (hop t (look t 7 refl) (stop t)))
       (store-raw t 1 refl (LL.lawful T.the-type T′.the-laws 𝓤 H A W .typed (R .next r) _ (R .next-is r v is) .0)) $ drop t $
       owned t T.the-row (Is T.the-row) (LL.makes T.the-type T′.the-plain 𝓤 H A) (R .next r) _ (R .next-is r v is) $ move t (1 ∷ 0 ∷ []) $ closes t tt T.the-row (R .next r) (val (R .next r) ∷ []) b o $
-      after r e (R .answer-is r v is))))))))
+      assigns t (of-opd t (load t (found t out (fld t refl (stop t))) (look-in t 4 (sub t 1 refl (whole t))))) (found t answered (stop t))
+      (init t 6 refl (R .Answer .typed 𝓤 H A W (R .answer r) _ (R .answer-is r v is))) $ after r e (R .answer-is r v is))))))))
 
   -- local a takes the answer of g, local 0 the word that w makes of it. `Says` is what g's contract says of the answer and of what it
   -- leaves behind references; `after` walks what follows, that and the word at hand

@@ -50,6 +50,7 @@ noJob = job none 0 0
 abbrev pub firstLoad : Job
 firstLoad = job first 0 255
 
+-- the word at 8000 then, without its status
 abbrev pub firstCommand : ℕ
 firstCommand = 0x0003
 

@@ -15,8 +15,7 @@ use ghost.Atoms.{Atoms, sem}
 use contract.Monad.{Fun}
 use contract.Running.{givenOf, tables, tablesOf}
 use types.Kit.{Given, ‵, _⊛_, _$_, _∵_, !, qed, move, keep, drop, split, join, fsplit, fsplit3, fjoin, fjoin3, feqI, suffices, frame, done}
-use types.Run.{look, init, forget, stop, fld, from, load, of-opd, and-then, no-more, assigns, returns, enter, alloc1, alloc0, params1, pass1, pass0, free1, free0}
-use types.Part.{whole, sub, look-in}
+use types.Run.{look, init, forget, stop, from, load, and-then, no-more, returns, enter, alloc1, alloc0, params1, pass1, pass0, free1, free0}
 use sound.WpLaws.{FmC, fmOf, WpFn-mono}
 use denote.RattleType.{owns}
 use denote.Laws.{Is}
@@ -75,14 +74,11 @@ module _ {M : Type 1} (𝓤 : URA M) (H : Heap 𝓤) (A : Atoms 𝓤) (W : Given
     walk C Λ fm known =
         qed W ((‵ (flft κ q) ⊛ ‵ ftrue) ∷ ‵ (owns (MutRef (named 0) κ T.the-row ∷ u32 ∷ []) x at) ∷ []) ∵ split ! $ move ! (2 ∷ []) $ fsplit ! $ fsplit3 ! $ drop ! $ move ! (0 ∷ 1 ∷ 3 ∷ []) $
         enter ! C Λ code.function (vptr b o ∷ vint w32 n ∷ []) _ $ alloc1 ! (λ l₀. alloc1 ! (λ l₁. alloc1 ! (λ l₂. alloc1 ! (λ l₃. alloc1 ! (λ l₄. alloc0 ! $ params1 ! $ pass1 ! (init ! 6 refl (tt, tt)) $ pass1 ! (init ! 4 refl (tt, record { fits = fits })) $ pass0 ! $
-        -- obs, the borrow and the token; _4, _3, _1; what is left: the ends of _4 and _3, _2 and its end, the end of _1, _0 and its end
-        move ! (10 ∷ 11 ∷ 12 ∷ 0 ∷ 2 ∷ 6 ∷ []) $ updates ! fm frame-outcome b o h refl refl refl G known to-g (λ i₀ i₁ i₂ i₃ i₄ i₅ i₆. and-then ! (load ! (from ! (stop !)) (look ! 5 refl)) (and-then ! (load ! (from ! (stop !)) (look ! 10 refl)) (no-more !))) goes-g
+        -- obs, the borrow and the token; _4, _3, _1, _0; what is left: the ends of _4 and _3, _2 and its end, the ends of _1 and _0
+        move ! (10 ∷ 11 ∷ 12 ∷ 0 ∷ 2 ∷ 6 ∷ 8 ∷ []) $ updates ! fm frame-outcome b o h refl refl refl refl G known to-g (λ i₀ i₁ i₂ i₃ i₄ i₅ i₆ i₇. and-then ! (load ! (from ! (stop !)) (look ! 5 refl)) (and-then ! (load ! (from ! (stop !)) (look ! 11 refl)) (no-more !))) goes-g
         (λ ws. sem 𝓤 H A (lasts g.ended tt (h, (n, tt)) ws)) (frameOf h n) (λ v. id⊢ 𝓤 _) (λ r e is.
-        -- [obs; the borrow; the token; _4; _3; _1; the ends of _4 and _3; _2 and its end; the end of _1; _0 and its end]
-        assigns ! (of-opd ! (load ! (from ! (fld ! refl (stop !))) (look-in ! 4 (sub ! 1 refl (whole !))))) (from ! (stop !)) (init ! 11 refl (frame-answer .typed 𝓤 H A W (r .answer) _ is)) $
-        returns ! (look ! 11 refl) $ forget ! 3 refl $ forget ! 4 refl $ forget ! 5 refl $ forget ! 8 refl $ forget ! 11 refl $
-        move ! (11 ∷ 12 ∷ []) $ free1 ! $ move ! (5 ∷ 10 ∷ []) $ free1 ! $ move ! (7 ∷ 8 ∷ []) $ free1 ! $ move ! (4 ∷ 6 ∷ []) $ free1 ! $ move ! (3 ∷ 4 ∷ []) $ free1 ! $ free0 ! $
-        keep ! (0 ∷ 1 ∷ 2 ∷ []) $
+        returns ! (look ! 6 refl) $ forget ! 3 refl $ forget ! 4 refl $ forget ! 5 refl $ forget ! 6 refl $ forget ! 9 refl $
+        move ! (6 ∷ 12 ∷ []) $ free1 ! $ move ! (5 ∷ 10 ∷ []) $ free1 ! $ move ! (7 ∷ 8 ∷ []) $ free1 ! $ move ! (4 ∷ 6 ∷ []) $ free1 ! $ move ! (3 ∷ 4 ∷ []) $ free1 ! $ free0 ! $ keep ! (0 ∷ 1 ∷ 2 ∷ []) $
         suffices ! _ (ends-at 𝓤 H A f.ended stayed (f.clauses 𝓤 H A at-mem run) W (((κ, tt), (q, tt), tt, x, at), tt) (frame-answer .value (r .answer)) (r .answer) (r .next, (tt, tt)) (tt, (tt, tt))) $
         says ! (ap (frame-outcome .answer) e, ap (frame-outcome .next) e) $ nothing ! $ move ! (3 ∷ 0 ∷ []) $ join ! $
         frame ! $ feqI ! (List Val) (vptr b o ∷ []) (vptr b o ∷ []) refl $ fjoin3 ! $ nothing ! $ nothing ! $ fjoin ! $ move ! (1 ∷ 0 ∷ []) $ fjoin ! $

@@ -15,8 +15,7 @@ use ghost.Atoms.{Atoms, sem}
 use contract.Monad.{Fun}
 use contract.Running.{givenOf, tables, tablesOf}
 use types.Kit.{Given, ‵, _⊛_, _$_, _∵_, !, qed, move, keep, drop, split, join, fsplit, fsplit3, fjoin, fjoin3, feqI, suffices, frame, done}
-use types.Run.{look, init, forget, stop, fld, from, load, of-opd, and-then, no-more, assigns, returns, enter, alloc1, alloc0, params1, pass1, pass0, free1, free0}
-use types.Part.{whole, sub, look-in}
+use types.Run.{look, init, forget, stop, from, load, and-then, no-more, returns, enter, alloc1, alloc0, params1, pass1, pass0, free1, free0}
 use sound.WpLaws.{FmC, fmOf, WpFn-mono}
 use denote.RattleType.{owns}
 use denote.Laws.{Is}
@@ -69,12 +68,11 @@ module _ {M : Type 1} (𝓤 : URA M) (H : Heap 𝓤) (A : Atoms 𝓤) (W : Given
     walk C Λ fm known =
         qed W ((‵ (flft κ q) ⊛ ‵ ftrue) ∷ ‵ (owns (MutRef (named 0) κ T.the-row ∷ []) x at) ∷ []) ∵ split ! $ move ! (2 ∷ []) $ fsplit ! $ fsplit3 ! $ drop ! $ move ! (0 ∷ 1 ∷ 3 ∷ []) $
         enter ! C Λ code.function (vptr b o ∷ []) _ $ alloc1 ! (λ l₀. alloc1 ! (λ l₁. alloc1 ! (λ l₂. alloc1 ! (λ l₃. alloc0 ! $ params1 ! $ pass1 ! (init ! 4 refl (tt, tt)) $ pass0 ! $
-        -- obs, the borrow and the token; _3, _2, _1; what is left: the ends of these, _0 and its end
-        move ! (8 ∷ 9 ∷ 10 ∷ 0 ∷ 2 ∷ 4 ∷ []) $ updates ! fm tick-outcome b o h refl refl refl G known to-g (λ i₀ i₁ i₂ i₃ i₄ i₅ i₆. and-then ! (load ! (from ! (stop !)) (look ! 5 refl)) (no-more !)) (alone W T.the-row h (val h ∷ []))
+        -- obs, the borrow and the token; _3 to _0; their ends
+        move ! (8 ∷ 9 ∷ 10 ∷ 0 ∷ 2 ∷ 4 ∷ 6 ∷ []) $ updates ! fm tick-outcome b o h refl refl refl refl G known to-g (λ i₀ i₁ i₂ i₃ i₄ i₅ i₆ i₇. and-then ! (load ! (from ! (stop !)) (look ! 5 refl)) (no-more !)) (alone W T.the-row h (val h ∷ []))
         (λ ws. sem 𝓤 H A (lasts g.ended tt (h, tt) ws)) (tickOf h) (λ v. id⊢ 𝓤 _) (λ r e is.
-        assigns ! (of-opd ! (load ! (from ! (fld ! refl (stop !))) (look-in ! 4 (sub ! 1 refl (whole !))))) (from ! (stop !)) (init ! 9 refl (tick-answer .typed 𝓤 H A W (r .answer) _ is)) $
-        returns ! (look ! 9 refl) $ forget ! 3 refl $ forget ! 4 refl $ forget ! 5 refl $ forget ! 9 refl $
-        move ! (9 ∷ 10 ∷ []) $ free1 ! $ move ! (5 ∷ 8 ∷ []) $ free1 ! $ move ! (4 ∷ 6 ∷ []) $ free1 ! $ move ! (3 ∷ 4 ∷ []) $ free1 ! $ free0 ! $ keep ! (0 ∷ 1 ∷ 2 ∷ []) $
+        returns ! (look ! 6 refl) $ forget ! 3 refl $ forget ! 4 refl $ forget ! 5 refl $ forget ! 6 refl $
+        move ! (6 ∷ 10 ∷ []) $ free1 ! $ move ! (5 ∷ 8 ∷ []) $ free1 ! $ move ! (4 ∷ 6 ∷ []) $ free1 ! $ move ! (3 ∷ 4 ∷ []) $ free1 ! $ free0 ! $ keep ! (0 ∷ 1 ∷ 2 ∷ []) $
         suffices ! _ (ends-at 𝓤 H A f.ended stayed (f.clauses 𝓤 H A at-mem run) W (((κ, tt), (q, tt), tt, x, at), tt) (tick-answer .value (r .answer)) (r .answer) (r .next, tt) (tt, tt)) $
         says ! (ap (tick-outcome .answer) e, ap (tick-outcome .next) e) $ nothing ! $ move ! (3 ∷ 0 ∷ []) $ join ! $
         frame ! $ feqI ! (List Val) (vptr b o ∷ []) (vptr b o ∷ []) refl $ fjoin3 ! $ nothing ! $ move ! (1 ∷ 0 ∷ []) $ fjoin ! $
