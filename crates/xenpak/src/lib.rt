@@ -97,19 +97,21 @@ impl Module {
     }
 
     // Power-on: the first load starts, and the lines are zero. Refused with 8 when powered.
-    pub fn power_on(self) -> Outcome
+    pub fn power_on(mut self) -> Outcome
         ensures { λ r. ⌜ r ≡ powerOn self ⌝ }
     {
-        let on = self.started(true, Alarms::NONE);
-        self.taken(Answer::to_power_on(self.powered), on)
+        let before = self;
+        self = self.started(true, Alarms::NONE);
+        before.taken(Answer::to_power_on(before.powered), self)
     }
 
     // The reset pin: the first load starts, and the lines are kept.
-    pub fn reset_pin(self) -> Outcome
+    pub fn reset_pin(mut self) -> Outcome
         ensures { λ r. ⌜ r ≡ resetPin self ⌝ }
     {
-        let reset = self.started(self.powered, self.alarms.restarted());
-        self.taken(Answer::to_call(self.powered, true), reset)
+        let before = self;
+        self = self.started(self.powered, self.alarms.restarted());
+        before.taken(Answer::to_call(before.powered, true), self)
     }
 
     // The power goes; a torn cut (document 01: struck) leaves its byte where a burn is due.
@@ -178,7 +180,7 @@ impl Module {
     }
 
     // A frame on the bus: what it asks is decided, then each part reacts.
-    pub fn frame(self, word: u32) -> FrameOutcome
+    pub fn frame(mut self, word: u32) -> FrameOutcome
         ensures { λ r. ⌜ r ≡ frame self word ⌝ }
     {
         let job = self.job;
@@ -189,8 +191,9 @@ impl Module {
         let byte = byte_read(action, &copy, &thresholds);
         let value = value_read(action, byte, job, self.command, self.alarms, self.monitor);
         let answer = FrameAnswer::of(action, value);
+        self = self.after(action);
         FrameOutcome {
-            next: self.after(action),
+            next: self,
             answer: answer,
         }
     }
