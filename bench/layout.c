@@ -62,7 +62,9 @@ static uint16_t last(struct given g, uint16_t at) {
     return xenpak_settle(g.module, 1000).ticks - 1;
 }
 
-static uint16_t kind(struct given g, uint16_t at) { return (void)at, XENPAK_WHICH(xenpak_tick(&g.module)); }
+static uint16_t kind(struct given g, uint16_t at) {
+    return (void)at, XENPAK_WHICH(xenpak_tick(&g.module)) - XENPAK_NOTHING;
+}
 
 static uint16_t powered(struct given g, uint16_t at) {
     return (void)at, XENPAK_REFUSAL(xenpak_tick(&g.module)) != XENPAK_POWERED_OFF;
@@ -199,15 +201,16 @@ static void follows(int i) {
     expect(!starts(i + 1) || r->values[1] >> 8 * (r->size - 1), r->name);
 }
 
-/* What is answered beside a record stands behind the whole record. */
+/* What is answered beside a record stands behind the whole record; a refusal's number is one byte. */
 static void answers(void) {
     struct xenpak_module on = base().module, off = on;
     off.powered = false;
     struct xenpak_called called = xenpak_cut(off);
-    expect(called.refusal == XENPAK_POWERED_OFF, "xenpak_called.refusal");
+    expect(called.refusal == XENPAK_POWERED_OFF && sizeof called.refusal == 1, "xenpak_called.refusal");
     expect(!memcmp(&called.next, &off, offsetof(struct xenpak_module, monitor.byte) + 1), "xenpak_called.next");
     struct xenpak_settled settled = xenpak_settle(off, 1000);
-    expect(settled.ticks == 0 && settled.refusal == XENPAK_POWERED_OFF, "xenpak_settled.refusal");
+    expect(settled.ticks == 0 && settled.refusal == XENPAK_POWERED_OFF && sizeof settled.refusal == 1,
+           "xenpak_settled.refusal");
     on.job = (struct xenpak_job){.due = 0, .last = 255, .ended = 0, .kind = 1};
     settled = xenpak_settle(on, 1000);
     expect(settled.ticks == 256 && settled.refusal == 0, "xenpak_settled.ticks");

@@ -92,10 +92,14 @@ pub struct Lines {
     lanes: bool,
 }
 
-const SET: u32 = 1 << 16;
-const WRITTEN: u32 = 2 << 16;
-const DROPPED: u32 = 3 << 16;
-const DATA: u32 = 4 << 16;
+const SILENT: u32 = 1 << 16;
+const SET: u32 = 2 << 16;
+const WRITTEN: u32 = 3 << 16;
+const DROPPED: u32 = 4 << 16;
+const DATA: u32 = 5 << 16;
+const NOTHING: u32 = 1 << 16;
+const LOADED: u32 = 2 << 16;
+const BURNED: u32 = 3 << 16;
 const OFF: u32 = 7 << 24;
 const ON: u32 = 8 << 24;
 const TEMPERATURE: u32 = 6 << 24;
@@ -351,7 +355,7 @@ pub extern "C" fn rust_tick(m: &mut Module) -> u32 {
     }
     let (kind, at) = (m.job.kind, m.job.due);
     if kind == IDLE {
-        return 0;
+        return NOTHING;
     }
     if at == m.job.last {
         m.job.kind = IDLE;
@@ -360,14 +364,14 @@ pub extern "C" fn rust_tick(m: &mut Module) -> u32 {
         m.job.due = at + 1;
     }
     let i = at as usize;
-    let which: u32 = if kind == BURN {
+    let which = if kind == BURN {
         m.store[i] = m.copy[i];
-        2
+        BURNED
     } else {
         m.copy[i] = m.store[i];
-        1
+        LOADED
     };
-    which << 16 | (at as u32) << 8 | m.copy[i] as u32
+    which | (at as u32) << 8 | m.copy[i] as u32
 }
 
 #[no_mangle]
@@ -393,8 +397,8 @@ pub extern "C" fn rust_frame(m: &mut Module, word: u32) -> u32 {
     let (operation, data) = (word >> 28 & 3, word as u16);
     let address = m.bus.address;
     match operation {
-        _ if !for_us => 0,
-        0 | 1 if !turned => 0,
+        _ if !for_us => SILENT,
+        0 | 1 if !turned => SILENT,
         0 => {
             m.bus.address = data;
             SET

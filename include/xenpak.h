@@ -119,17 +119,17 @@ enum xenpak_refusal {
     XENPAK_POWERED_ON = 8
 };
 
-/* The answer of a tick or a frame: bits 31:24 the refusal's number, 23:16 which answer it is, 15:0 its value;
-   for loaded and burned bits 15:8 the offset and 7:0 the byte. */
+/* The answer of a tick or a frame: bits 31:24 the refusal's number or 0, 23:16 which answer it is, 0 where it is refused,
+   15:0 its value; for loaded and burned bits 15:8 the offset and 7:0 the byte. */
 #define XENPAK_REFUSAL(answer) ((answer) >> 24)
 #define XENPAK_WHICH(answer) ((answer) >> 16 & 0xff)
 #define XENPAK_VALUE(answer) ((answer) & 0xffff)
 #define XENPAK_OFFSET(answer) ((answer) >> 8 & 0xff)
 #define XENPAK_BYTE(answer) ((answer) & 0xff)
 
-enum xenpak_tick_answer { XENPAK_NOTHING, XENPAK_LOADED, XENPAK_BURNED };
+enum xenpak_tick_answer { XENPAK_NOTHING = 1, XENPAK_LOADED, XENPAK_BURNED };
 
-enum xenpak_frame_answer { XENPAK_SILENT, XENPAK_SET, XENPAK_WRITTEN, XENPAK_DROPPED, XENPAK_DATA };
+enum xenpak_frame_answer { XENPAK_SILENT = 1, XENPAK_SET, XENPAK_WRITTEN, XENPAK_DROPPED, XENPAK_DATA };
 
 /* ---- on a lent record, updated there */
 

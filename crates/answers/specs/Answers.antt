@@ -27,7 +27,7 @@ refusalNumber PoweredOff = 7
 refusalNumber PoweredOn = 8
 
 -- an answer as document 01 gives it: the refusal's number, 0 where there is none; which of the answers that it names for
--- the call, in its order, from 0; and the values that come with it
+-- the call, in its order from 1, 0 where the call is refused; and the values that come with it
 pub record Said : Type 0 where
   pub refusal : ℕ
   pub which : ℕ
@@ -40,28 +40,28 @@ abbrev pub says : ℕ → List ℕ → Said
 says n vs = record { refusal = 0; which = n; values = vs }
 
 abbrev pub saidPlain : Answer → Said
-saidPlain plain.Accepted = says 0 []
+saidPlain plain.Accepted = says 1 []
 saidPlain (plain.Refused why) = refusedWith why
 
 -- silent, set, written, dropped, data
 abbrev pub saidFrame : FrameAnswer → Said
-saidFrame frame.Silent = says 0 []
-saidFrame frame.Set = says 1 []
-saidFrame frame.Written = says 2 []
-saidFrame frame.Dropped = says 3 []
-saidFrame (frame.Data value) = says 4 (value ∷ [])
+saidFrame frame.Silent = says 1 []
+saidFrame frame.Set = says 2 []
+saidFrame frame.Written = says 3 []
+saidFrame frame.Dropped = says 4 []
+saidFrame (frame.Data value) = says 5 (value ∷ [])
 saidFrame (frame.Refused why) = refusedWith why
 
 -- nothing, loaded, burned; offset and byte
 abbrev pub saidTick : TickAnswer → Said
-saidTick tick.Nothing = says 0 []
-saidTick (tick.Loaded offset byte) = says 1 (offset ∷ byte ∷ [])
-saidTick (tick.Burned offset byte) = says 2 (offset ∷ byte ∷ [])
+saidTick tick.Nothing = says 1 []
+saidTick (tick.Loaded offset byte) = says 2 (offset ∷ byte ∷ [])
+saidTick (tick.Burned offset byte) = says 3 (offset ∷ byte ∷ [])
 saidTick (tick.Refused why) = refusedWith why
 
 -- the count
 abbrev pub saidSettle : SettleAnswer → Said
-saidSettle (settle.Ticks count) = says 0 (count ∷ [])
+saidSettle (settle.Ticks count) = says 1 (count ∷ [])
 saidSettle (settle.Refused why) = refusedWith why
 
 -- ---- which answer a call gets

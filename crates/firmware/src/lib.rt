@@ -48,9 +48,9 @@ fn tick_word(answer: TickAnswer) -> u32
     ensures { λ r. ⌜ r ≡ answerWord (saidTick answer) ⌝ }
 {
     match answer {
-        TickAnswer::Nothing => word_of(0, 0, 0),
-        TickAnswer::Loaded(offset, byte) => word_of(0, 1, pair_of(offset, byte)),
-        TickAnswer::Burned(offset, byte) => word_of(0, 2, pair_of(offset, byte)),
+        TickAnswer::Nothing => word_of(0, 1, 0),
+        TickAnswer::Loaded(offset, byte) => word_of(0, 2, pair_of(offset, byte)),
+        TickAnswer::Burned(offset, byte) => word_of(0, 3, pair_of(offset, byte)),
         TickAnswer::Refused(why) => word_of(why.number(), 0, 0),
     }
 }
@@ -60,11 +60,11 @@ fn frame_word(answer: FrameAnswer) -> u32
     ensures { λ r. ⌜ r ≡ answerWord (saidFrame answer) ⌝ }
 {
     match answer {
-        FrameAnswer::Silent => word_of(0, 0, 0),
-        FrameAnswer::Set => word_of(0, 1, 0),
-        FrameAnswer::Written => word_of(0, 2, 0),
-        FrameAnswer::Dropped => word_of(0, 3, 0),
-        FrameAnswer::Data(value) => word_of(0, 4, value),
+        FrameAnswer::Silent => word_of(0, 1, 0),
+        FrameAnswer::Set => word_of(0, 2, 0),
+        FrameAnswer::Written => word_of(0, 3, 0),
+        FrameAnswer::Dropped => word_of(0, 4, 0),
+        FrameAnswer::Data(value) => word_of(0, 5, value),
         FrameAnswer::Refused(why) => word_of(why.number(), 0, 0),
     }
 }
