@@ -1,10 +1,9 @@
 // Every other call for C, by value: each takes a record and hands back the one after it.
 ghost use mathlib.Core.Path.{_≡_};
-ghost use lib.ListN.{getD};
 ghost use Rattle.dom.specs.Readout.{tenthsOf};
-ghost use Rattle.lasi.specs.Lasi.{alarmLine};
 ghost use Rattle.store.specs.declared.Cut.the-variants.{Clean, Torn};
 ghost use Rattle.xenpak.specs.Calls.{powerOn, powerCut, resetPin, lines, sample};
+ghost use Rattle.reads.specs.Reads.{lineOf, counterOf, storedAt};
 ghost use Rattle.creation.specs.Creation.{make};
 ghost use Rattle.settling.specs.Settling.{settle};
 ghost use Rattle.firmware.specs.Words.{calledBy, settledBy};
@@ -139,7 +138,7 @@ pub extern "C" fn xenpak_settle(m: Module, budget: u32) -> Settled
 // The alarm line, LASI.
 #[no_mangle]
 pub extern "C" fn xenpak_line(m: Module) -> bool
-    ensures { λ r. ⌜ r ≡ alarmLine (m .powered) (m .alarms) ⌝ }
+    ensures { λ r. ⌜ r ≡ lineOf m ⌝ }
 {
     alarm_line(m)
 }
@@ -147,7 +146,7 @@ pub extern "C" fn xenpak_line(m: Module) -> bool
 // Data answers since power-on or reset.
 #[no_mangle]
 pub extern "C" fn xenpak_counter(m: Module) -> u16
-    ensures { λ r. ⌜ r ≡ m .bus .counter ⌝ }
+    ensures { λ r. ⌜ r ≡ counterOf m ⌝ }
 {
     counter(m)
 }
@@ -155,7 +154,7 @@ pub extern "C" fn xenpak_counter(m: Module) -> u16
 // The byte of the store at an offset.
 #[no_mangle]
 pub extern "C" fn xenpak_stored(m: Module, offset: u8) -> u8
-    ensures { λ r. ⌜ r ≡ getD (m .store) offset 0 ⌝ }
+    ensures { λ r. ⌜ r ≡ storedAt m offset ⌝ }
 {
     stored(m, offset)
 }

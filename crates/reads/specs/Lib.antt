@@ -1,0 +1,2 @@
+-- What the contracts of `reads` cite.
+pub mod Reads
