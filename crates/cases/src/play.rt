@@ -52,7 +52,7 @@ fn call_of(word: u64, a: u32, b: u32, c: u32) -> Call {
     match word {
         ON => Call::PowerOn,
         CUT => Call::Cut(Cut::Clean),
-        STRUCK => Call::Cut(Cut::Torn((a % 256) as u8)),
+        TORN => Call::Cut(Cut::Torn((a % 256) as u8)),
         PIN => Call::ResetPin,
         FRAME => Call::Frame(a),
         TICK => Call::Tick,
@@ -120,6 +120,13 @@ fn settle_within(m: Module, budget: u32) -> Module {
     outcome.next
 }
 
+// The same module with so many data answers counted.
+fn counted(mut m: Module, n: u32) -> Module {
+    let count = (n % 0x1_0000) as u16;
+    m.bus.counter = count;
+    m
+}
+
 // 1 where the stored byte is not its offset.
 fn differs(m: Module, offset: u8) -> u32
     ensures { λ r. ⌜ r ≤ 1 ⌝ }
@@ -155,7 +162,7 @@ fn after(m: Module, parts: Parts, step: Step) -> Module {
     match word {
         ON
         | CUT
-        | STRUCK
+        | TORN
         | PIN
         | FRAME
         | TICK
@@ -172,6 +179,7 @@ fn after(m: Module, parts: Parts, step: Step) -> Module {
         FRESH => fresh(),
         LOADED => loaded(),
         SETTLE => settle_within(m, decimal(step.first)),
+        COUNTED => counted(m, decimal(step.first)),
         _ => {
             look(m, step);
             m

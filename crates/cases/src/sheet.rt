@@ -6,7 +6,8 @@ pub const ON: u64 = 0x6f6e;
 
 pub const CUT: u64 = 0x63_7574;
 
-pub const STRUCK: u64 = 0x7374_7275_636b;
+// Document 01: struck.
+pub const TORN: u64 = 0x746f_726e;
 
 pub const PIN: u64 = 0x70_696e;
 
@@ -52,6 +53,8 @@ pub const LINE: u64 = 0x6c69_6e65;
 
 pub const COUNT: u64 = 0x63_6f75_6e74;
 
+pub const COUNTED: u64 = 0x63_6f75_6e74_6564;
+
 pub const STORED: u64 = 0x7374_6f72_6564;
 
 pub const CHANGED: u64 = 0x63_6861_6e67_6564;
@@ -94,7 +97,7 @@ pub fn decimal(digits: u32) -> u32 {
 // How many numbers a word takes.
 fn numbers_of(word: u64) -> u8 {
     match word {
-        STRUCK
+        TORN
         | FRAME
         | TICK
         | TEMP
@@ -104,6 +107,7 @@ fn numbers_of(word: u64) -> u8 {
         | READ
         | AGAIN
         | SETTLE
+        | COUNTED
         | STORED
         | MAKE => 1,
         WRITE | WALK | IMAGE => 2,

@@ -17,7 +17,7 @@ pub product-fits : (z : ℤ) → SFits w16 z → SFits w32 (z *ℤ pos 10)
 product-fits (pos n) f = record { sfits = omega (arith, f .sfits) }
 product-fits (negsuc n) f = negative-fits w32 (suc n * 10) (omega arith) (omega (arith, f .sfits))
 
-quotient-negative : (m : ℕ) → quotZ (negℤ (pos m)) (pos 256) ≡ negℤ (pos (m / 256))
+pub quotient-negative : (m : ℕ) → quotZ (negℤ (pos m)) (pos 256) ≡ negℤ (pos (m / 256))
 quotient-negative zero = refl
 quotient-negative (suc m) = refl
 

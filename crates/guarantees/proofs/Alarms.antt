@@ -1,135 +1,158 @@
 -- The alarm registers hold what the history rule says, and so does the alarm line.
 -- Assumes nothing.
-use Prim.Native.Nat.{ℕ, zero, suc, _≤_, _<_}
+use Prim.Native.Nat.{ℕ, zero, suc, _≤_, _<_, _^_}
 use native.Mathlib.Omega.{arith}
 use borrow.Author.Tests.{ne-eqb}
-use mathlib.Core.Bool.{Bool, true, false, cond, _&&_, _||_}
+use mathlib.Core.Bool.{Bool, true, false, cond, not, _&&_, _||_, and-comm}
 use mathlib.Core.List.{List, [], _∷_}
 use mathlib.Core.Path.{_≡_, refl, sym, ap, ap₂, _∙_, subst}
-use lib.Bits.{bitOr}
+use lib.Bits.{bitAnd, bitOr, and-le-r, or-lt}
 use lib.Dec.{eqb}
-use lib.ListN.{getD}
+use lib.ListN.{length, getD}
 use Rattle.words.specs.Words.{bit, ofBits, share}
-use Rattle.words.proofs.Laws.{bit-and, bit-or, bit-zero, bit-ofBits, any-same}
+use Rattle.words.proofs.Laws.{bit-and, bit-or, bit-zero, bit-ofBits, ofBits-below, any-same}
 use Rattle.registers.specs.declared.Register.{Register}
-use Rattle.registers.specs.declared.Register.the-variants as register
 use Rattle.thresholds.specs.Thresholds.{thresholdsOf}
-use Rattle.flags.specs.Flags.{Side, alarm, warning, txBits, rxBits, flagsOf}
+use Rattle.dom.specs.declared.Sample.{Sample}
+use Rattle.flags.specs.Flags as flags
+use Rattle.flags.specs.Flags.{Side, codesOf, crossed, txBits, rxBits, flagsOf}
 use Rattle.latch.specs.Latch.{noLatch, fed, cleared, latched}
-use Rattle.alarms.specs.Alarms as alarms
-use Rattle.alarms.specs.Alarms.{noAlarms}
-use Rattle.lasi.specs.Lasi.{rxAlarm, txAlarm, lasiStatus, alarmLine}
 use Rattle.latch.specs.declared.Latch.{Latch}
 use Rattle.controls.specs.declared.Controls.{Controls}
+use Rattle.alarms.specs.Alarms as alarms
+use Rattle.alarms.specs.Alarms.{noAlarms}
 use Rattle.alarms.specs.declared.Alarms.{Alarms}
-use Rattle.calls.specs.Calls.{step}
-use Rattle.calls.specs.declared.Call.{Call}
+use Rattle.alarms.specs.declared.Lines.{Lines}
+use Rattle.lasi.specs.Lasi.{rxAlarm, txAlarm, lasiStatus}
+use Rattle.answers.specs.Answers.{Said}
 use Rattle.xenpak.specs.declared.Module.{Module}
-use Rattle.guarantees.specs.Reference.{Reference}
-use Rattle.guarantees.specs.BurnLog.{Entry}
-use Rattle.guarantees.specs.History.{Event, nothing, poweredOn, wasReset, gotLines, gotSample, dataFrom, stepEvent, Effect, keeps, clears, forgets, gives, Source, fromStatus, fromFlags, clearsIf, rxFaults, txFaults, txFlag, rxFlag, flagged, txAlarms, rxAlarms, txWarnings, rxWarnings, latestAfter, sinceAfter, latestHas, someSince, stands, linkAfter, linkUp, changedAfter, linkChanged, shares, rxAlarmBit, txAlarmBit, lasiBit, lineByHistory}
-use Rattle.guarantees.specs.Guarantees.{alarmLines, linesByHistory, AlarmRegisters}
-use Rattle.guarantees.proofs.Transition.{referenceOf, JobSound, Transition, unchanged, powering, cutting, resetting, ticking, lining, sampling, addressing, commanding, writing, controlling, reading, transition, step-ref, Fixed, step-fixed}
-use Rattle.guarantees.proofs.Store.{step-sound}
+use Rattle.reads.specs.Reads.{lineOf}
+use Rattle.guarantees.specs.History.{Event, nothing, poweredOn, wasReset, ticked, gotLines, gotSample, dataFrom, alarm, warning, txFlags, rxFlags, Effect, keeps, clears, forgets, gives, Source, latestAfter, sinceAfter, latestHas, someSince, stands, rxFaults, txFaults, linkOf, link, linkChange, txAlarms, rxAlarms, txWarnings, rxWarnings, shares, rxAlarmBit, txAlarmBit, lasiBit, lineByHistory}
+use Rattle.guarantees.proofs.Located.{single, Located, apart, located, at0000, at8000, copy, customer, at9000, at9001, at9002, at9003, at9004, at9005, at9006, at9007, threshold, ata060, ata061, ata064, ata065, ata066, ata067, ata068, ata069, ata070, ata071, ata074, ata075, unlisted}
+use Rattle.guarantees.proofs.Transition.{Reaction, Transition, unchanged, powering, cutting, resetting, ticking, lining, sampling, addressing, commanding, writing, controlling, reading, modelOf}
 
 other : (i k : ℕ) → k < i → eqb i k ≡ false
 other i k h = ne-eqb i k (λ e. omega arith)
 
 -- ---- one latch
 -- the latch after an effect
-pub data Follows (l : Latch) : Effect → Latch → Type 0 where
+data Follows (l : Latch) : Effect → Latch → Type 0 where
   kept : Follows l keeps l
   cleared-by : Follows l clears (cleared l)
   emptied : Follows l forgets noLatch
-  given : (bits : ℕ → Bool) (w : ℕ) → ((i : ℕ) → bit i w ≡ bits i) → Follows l (gives bits) (fed w l)
+  given : (bits : ℕ → Bool) (w : ℕ) → w < 2 ^ 16 → ((i : ℕ) → bit i w ≡ bits i) → Follows l (gives bits) (fed w l)
 
+-- its two words have the bits that the history says, and no more than 16
 pub record LatchSound (s : Source) (h : List Event) (l : Latch) : Type 0 where
   pub live : (i : ℕ) → bit i (l .live) ≡ latestHas s h i
   pub since : (i : ℕ) → bit i (l .since) ≡ someSince s h i
+  pub live-word : l .live < 2 ^ 16
+  pub since-word : l .since < 2 ^ 16
 
-latch-after : {l l′ : Latch} {x : Effect} → Follows l x l′ → (i : ℕ) {a b : Bool} → bit i (l .live) ≡ a → bit i (l .since) ≡ b
+latch-bits : {l l′ : Latch} {x : Effect} → Follows l x l′ → (i : ℕ) {a b : Bool} → bit i (l .live) ≡ a → bit i (l .since) ≡ b
     → (bit i (l′ .live) ≡ latestAfter x i a) × (bit i (l′ .since) ≡ sinceAfter x i b)
-latch-after kept i p q = (p, q)
-latch-after cleared-by i p q = (p, bit-zero i)
-latch-after emptied i p q = (bit-zero i, bit-zero i)
-latch-after {l} (given bits w e) i p q = (e i, bit-or i (l .since) w ∙ ap₂ _||_ q (e i))
+latch-bits kept i p q = (p, q)
+latch-bits cleared-by i p q = (p, bit-zero i)
+latch-bits emptied i p q = (bit-zero i, bit-zero i)
+latch-bits {l} (given bits w s e) i p q = (e i, bit-or i (l .since) w ∙ ap₂ _||_ q (e i))
 
-latch-step : (s : Source) (h : List Event) (e : Event) {l l′ : Latch} → Follows l (s e) l′ → LatchSound s h l → LatchSound s (e ∷ h) l′
+latch-words : {l l′ : Latch} {x : Effect} → Follows l x l′ → l .live < 2 ^ 16 → l .since < 2 ^ 16 → (l′ .live < 2 ^ 16) × (l′ .since < 2 ^ 16)
+latch-words kept p q = (p, q)
+latch-words cleared-by p q = (p, omega arith)
+latch-words emptied p q = (omega arith, omega arith)
+latch-words {l} (given bits w s e) p q = (s, or-lt 16 (l .since) w q s)
+
+latch-step : (s : Source) (h : List Event) (e : Event) {l l′ : Latch} → Follows l (s h e) l′ → LatchSound s h l → LatchSound s (e ∷ h) l′
 unfolding latestHas someSince
 latch-step s h e f ok =
-    record { live = λ i. latch-after f i (ok .live i) (ok .since i) .0; since = λ i. latch-after f i (ok .live i) (ok .since i) .1 }
+    record {
+      live = λ i. latch-bits f i (ok .live i) (ok .since i) .0;
+      since = λ i. latch-bits f i (ok .live i) (ok .since i) .1;
+      live-word = latch-words f (ok .live-word) (ok .since-word) .0;
+      since-word = latch-words f (ok .live-word) (ok .since-word) .1;
+    }
 
 no-latch : (s : Source) → LatchSound s [] noLatch
 unfolding latestHas someSince
-no-latch s = record { live = bit-zero; since = bit-zero }
-
-cleared-if : (b : Bool) (l : Latch) → Follows l (clearsIf b) (cond b (cleared l) l)
-cleared-if true l = cleared-by
-cleared-if false l = kept
+no-latch s = record { live = bit-zero; since = bit-zero; live-word = omega arith; since-word = omega arith }
 
 -- ---- all of them
 -- the alarms, controls apart, after an event
-pub record AlarmsFollow (t : List ℕ) (e : Event) (a a′ : Alarms) : Type 0 where
-  pub rxfaults : Follows (a .rxfaults) (rxFaults e) (a′ .rxfaults)
-  pub txfaults : Follows (a .txfaults) (txFaults e) (a′ .txfaults)
-  pub txalarm : Follows (a .txalarm) (txAlarms t e) (a′ .txalarm)
-  pub rxalarm : Follows (a .rxalarm) (rxAlarms t e) (a′ .rxalarm)
-  pub txwarning : Follows (a .txwarning) (txWarnings t e) (a′ .txwarning)
-  pub rxwarning : Follows (a .rxwarning) (rxWarnings t e) (a′ .rxwarning)
-  pub link : a′ .link ≡ linkAfter e (a .link)
-  pub changed : a′ .changed ≡ changedAfter e (a .link) (a .changed)
+record AlarmsFollow (t : List ℕ) (h : List Event) (e : Event) (a a′ : Alarms) : Type 0 where
+  rxfaults : Follows (a .rxfaults) (rxFaults h e) (a′ .rxfaults)
+  txfaults : Follows (a .txfaults) (txFaults h e) (a′ .txfaults)
+  txalarm : Follows (a .txalarm) (txAlarms t h e) (a′ .txalarm)
+  rxalarm : Follows (a .rxalarm) (rxAlarms t h e) (a′ .rxalarm)
+  txwarning : Follows (a .txwarning) (txWarnings t h e) (a′ .txwarning)
+  rxwarning : Follows (a .rxwarning) (rxWarnings t h e) (a′ .rxwarning)
+  up : a′ .link ≡ latestAfter (link h e) 0 (a .link)
+  changed : a′ .changed ≡ sinceAfter (linkChange h e) 0 (a .changed)
 
-keep-all : (t : List ℕ) (a : Alarms) (c : Controls) → AlarmsFollow t nothing a (alarms.withControls c a)
-keep-all t a c =
+-- the alarms hold what the history says
+pub record AlarmsSound (t : List ℕ) (h : List Event) (a : Alarms) : Type 0 where
+  pub rxfaults : LatchSound rxFaults h (a .rxfaults)
+  pub txfaults : LatchSound txFaults h (a .txfaults)
+  pub txalarm : LatchSound (txAlarms t) h (a .txalarm)
+  pub rxalarm : LatchSound (rxAlarms t) h (a .rxalarm)
+  pub txwarning : LatchSound (txWarnings t) h (a .txwarning)
+  pub rxwarning : LatchSound (rxWarnings t) h (a .rxwarning)
+  pub up : a .link ≡ latestHas link h 0
+  pub changed : a .changed ≡ someSince linkChange h 0
+
+pub no-alarms : (t : List ℕ) → AlarmsSound t [] noAlarms
+unfolding latestHas someSince
+no-alarms t =
     record {
-      rxfaults = kept;
-      txfaults = kept;
-      txalarm = kept;
-      rxalarm = kept;
-      txwarning = kept;
-      rxwarning = kept;
-      link = refl;
+      rxfaults = no-latch rxFaults;
+      txfaults = no-latch txFaults;
+      txalarm = no-latch (txAlarms t);
+      rxalarm = no-latch (rxAlarms t);
+      txwarning = no-latch (txWarnings t);
+      rxwarning = no-latch (rxWarnings t);
+      up = refl;
       changed = refl;
     }
 
-power-all : (t : List ℕ) (a : Alarms) → AlarmsFollow t poweredOn a noAlarms
-power-all t a =
+follows-on : {t : List ℕ} {h : List Event} {e : Event} {a a′ : Alarms} → AlarmsFollow t h e a a′ → AlarmsSound t h a → AlarmsSound t (e ∷ h) a′
+unfolding latestHas someSince
+follows-on {t} {h} {e} f ok =
     record {
-      rxfaults = emptied;
-      txfaults = emptied;
-      txalarm = emptied;
-      rxalarm = emptied;
-      txwarning = emptied;
-      rxwarning = emptied;
-      link = refl;
-      changed = refl;
+      rxfaults = latch-step rxFaults h e (f .rxfaults) (ok .rxfaults);
+      txfaults = latch-step txFaults h e (f .txfaults) (ok .txfaults);
+      txalarm = latch-step (txAlarms t) h e (f .txalarm) (ok .txalarm);
+      rxalarm = latch-step (rxAlarms t) h e (f .rxalarm) (ok .rxalarm);
+      txwarning = latch-step (txWarnings t) h e (f .txwarning) (ok .txwarning);
+      rxwarning = latch-step (rxWarnings t) h e (f .rxwarning) (ok .rxwarning);
+      up = f .up ∙ ap (latestAfter (link h e) 0) (ok .up);
+      changed = f .changed ∙ ap (sinceAfter (linkChange h e) 0) (ok .changed);
     }
 
-reset-all : (t : List ℕ) (a : Alarms) → AlarmsFollow t wasReset a (alarms.restarted a)
-reset-all t a =
-    record {
-      rxfaults = cleared-by;
-      txfaults = cleared-by;
-      txalarm = emptied;
-      rxalarm = emptied;
-      txwarning = emptied;
-      rxwarning = emptied;
-      link = refl;
-      changed = refl;
-    }
+-- ---- what each event does
+module _ (t : List ℕ) (h : List Event) (a : Alarms) where
+  abbrev all : {e : Event} {a′ : Alarms} → Follows (a .rxfaults) (rxFaults h e) (a′ .rxfaults) → Follows (a .txfaults) (txFaults h e) (a′ .txfaults)
+      → Follows (a .txalarm) (txAlarms t h e) (a′ .txalarm) → Follows (a .rxalarm) (rxAlarms t h e) (a′ .rxalarm)
+      → Follows (a .txwarning) (txWarnings t h e) (a′ .txwarning) → Follows (a .rxwarning) (rxWarnings t h e) (a′ .rxwarning)
+      → a′ .link ≡ latestAfter (link h e) 0 (a .link) → a′ .changed ≡ sinceAfter (linkChange h e) 0 (a .changed) → AlarmsFollow t h e a a′
+  all rf tf ta ra tw rw′ u c =
+      record { rxfaults = rf; txfaults = tf; txalarm = ta; rxalarm = ra; txwarning = tw; rxwarning = rw′; up = u; changed = c }
 
-lines-all : (t : List ℕ) (a : Alarms) (l : _) → AlarmsFollow t (gotLines l) a (alarms.afterLines a l)
-lines-all t a l =
-    record {
-      rxfaults = given _ _ (λ i. bit-and i (l .receive) 0x0039);
-      txfaults = given _ _ (λ i. bit-and i (l .transmit) 0x03d9);
-      txalarm = kept;
-      rxalarm = kept;
-      txwarning = kept;
-      rxwarning = kept;
-      link = refl;
-      changed = refl;
-    }
+  nothing-all : (c : Controls) → AlarmsFollow t h nothing a (alarms.withControls c a)
+  nothing-all c = all kept kept kept kept kept kept refl refl
+
+  tick-all : AlarmsFollow t h ticked a a
+  tick-all = all kept kept kept kept kept kept refl refl
+
+  power-all : AlarmsFollow t h poweredOn a noAlarms
+  power-all = all emptied emptied emptied emptied emptied emptied refl refl
+
+  reset-all : AlarmsFollow t h wasReset a (alarms.restarted a)
+  reset-all = all cleared-by cleared-by emptied emptied emptied emptied refl refl
+
+  lines-all : (l : Lines) → a .link ≡ latestHas link h 0 → AlarmsFollow t h (gotLines l) a (alarms.afterLines a l)
+  lines-all l up =
+      all (given _ (bitAnd (l .receive) 0x0039) (omega (arith, and-le-r (l .receive) 0x0039)) (λ i. bit-and i (l .receive) 0x0039))
+      (given _ (bitAnd (l .transmit) 0x03d9) (omega (arith, and-le-r (l .transmit) 0x03d9)) (λ i. bit-and i (l .transmit) 0x03d9)) kept kept kept kept
+      refl (ap (λ (b : Bool). a .changed || cond b (not (linkOf l)) (linkOf l)) up)
 
 -- a flag's place in its word: eight bits, and none above
 placed : (f : ℕ → Bool) → ((i : ℕ) → 8 ≤ i → f i ≡ false) → (i : ℕ)
@@ -144,149 +167,136 @@ placed f none (suc (suc (suc (suc (suc (suc zero)))))) = refl
 placed f none (suc (suc (suc (suc (suc (suc (suc zero))))))) = refl
 placed f none (suc (suc (suc (suc (suc (suc (suc (suc i)))))))) = sym (none _ (omega arith))
 
-tx-place : (flag : Side → ℕ → Bool) (i : ℕ) → getD (txBits flag) i false ≡ txFlag flag i
-tx-place flag =
-    placed (txFlag flag)
-    (λ i h. rw (other i 7 (omega arith), other i 6 (omega arith), other i 3 (omega arith), other i 2 (omega arith), other i 1 (omega arith), other i 0 (omega arith)))
+-- eight bits make a word
+byte-word : (bs : List Bool) → length bs ≡ 8 → ofBits bs < 2 ^ 16
+byte-word bs e = let h : ofBits bs < 2 ^ 8 = rw e at (ofBits-below bs) in omega arith
 
-rx-place : (flag : Side → ℕ → Bool) (i : ℕ) → getD (rxBits flag) i false ≡ rxFlag flag i
-rx-place flag = placed (rxFlag flag) (λ i h. rw (other i 7 (omega arith), other i 6 (omega arith)))
+module _ (t : List ℕ) (s : Sample) where
+  -- the code's flags at a level, whose columns are these
+  abbrev crossing : (Side → ℕ) → Side → ℕ → Bool
+  crossing columns = crossed (thresholdsOf t) (codesOf s) columns
 
-sample-all : (t : List ℕ) (a : Alarms) (s : _) → AlarmsFollow t (gotSample s) a (alarms.afterSample a (flagsOf (thresholdsOf t) s))
-unfolding flagsOf
-sample-all t a s =
-    let tx : (level : Side → ℕ) (i : ℕ) → bit i (ofBits (txBits (flagged t level s))) ≡ txFlag (flagged t level s) i =
-    λ level i. bit-ofBits (txBits (flagged t level s)) i ∙ tx-place (flagged t level s) i in
-    let rx : (level : Side → ℕ) (i : ℕ) → bit i (ofBits (rxBits (flagged t level s))) ≡ rxFlag (flagged t level s) i =
-    λ level i. bit-ofBits (rxBits (flagged t level s)) i ∙ rx-place (flagged t level s) i in
-    record {
-      rxfaults = kept;
-      txfaults = kept;
-      txalarm = given _ _ (tx alarm);
-      rxalarm = given _ _ (rx alarm);
-      txwarning = given _ _ (tx warning);
-      rxwarning = given _ _ (rx warning);
-      link = refl;
-      changed = refl;
-    }
+  tx-none : (level i : ℕ) → 8 ≤ i → txFlags t level s i ≡ false
+  tx-none level i h = rw (other i 7 (omega arith), other i 6 (omega arith), other i 3 (omega arith), other i 2 (omega arith), other i 1 (omega arith), other i 0 (omega arith))
+
+  rx-none : (level i : ℕ) → 8 ≤ i → rxFlags t level s i ≡ false
+  rx-none level i h = rw (other i 7 (omega arith), other i 6 (omega arith))
+
+  tx-alarm : (i : ℕ) → bit i (ofBits (txBits (crossing flags.alarm))) ≡ txFlags t alarm s i
+  tx-alarm i = bit-ofBits (txBits (crossing flags.alarm)) i ∙ placed (txFlags t alarm s) (tx-none alarm) i
+
+  rx-alarm : (i : ℕ) → bit i (ofBits (rxBits (crossing flags.alarm))) ≡ rxFlags t alarm s i
+  rx-alarm i = bit-ofBits (rxBits (crossing flags.alarm)) i ∙ placed (rxFlags t alarm s) (rx-none alarm) i
+
+  tx-warning : (i : ℕ) → bit i (ofBits (txBits (crossing flags.warning))) ≡ txFlags t warning s i
+  tx-warning i = bit-ofBits (txBits (crossing flags.warning)) i ∙ placed (txFlags t warning s) (tx-none warning) i
+
+  rx-warning : (i : ℕ) → bit i (ofBits (rxBits (crossing flags.warning))) ≡ rxFlags t warning s i
+  rx-warning i = bit-ofBits (rxBits (crossing flags.warning)) i ∙ placed (rxFlags t warning s) (rx-none warning) i
+
+  sample-all : (h : List Event) (a : Alarms) → AlarmsFollow t h (gotSample s) a (alarms.afterSample a (flagsOf (thresholdsOf t) s))
+  unfolding flagsOf
+  sample-all h a =
+      all t h a kept kept (given _ _ (byte-word (txBits (crossing flags.alarm)) refl) tx-alarm) (given _ _ (byte-word (rxBits (crossing flags.alarm)) refl) rx-alarm)
+      (given _ _ (byte-word (txBits (crossing flags.warning)) refl) tx-warning) (given _ _ (byte-word (rxBits (crossing flags.warning)) refl) rx-warning) refl refl
 
 -- a read clears what it is from
-readAlarms : Register → Alarms → Alarms
-readAlarms r a =
+readAlarms : ℕ → Alarms → Alarms
+readAlarms a x =
     record {
-      controls = a .controls;
-      rxfaults = cond (fromStatus 0 r) (cleared (a .rxfaults)) (a .rxfaults);
-      txfaults = cond (fromStatus 1 r) (cleared (a .txfaults)) (a .txfaults);
-      txalarm = cond (fromFlags 0 r) (cleared (a .txalarm)) (a .txalarm);
-      rxalarm = cond (fromFlags 1 r) (cleared (a .rxalarm)) (a .rxalarm);
-      txwarning = cond (fromFlags 2 r) (cleared (a .txwarning)) (a .txwarning);
-      rxwarning = cond (fromFlags 3 r) (cleared (a .rxwarning)) (a .rxwarning);
-      link = a .link;
-      changed = cond (fromStatus 2 r) false (a .changed);
+      controls = x .controls;
+      rxfaults = cond (eqb a 0x9003) (cleared (x .rxfaults)) (x .rxfaults);
+      txfaults = cond (eqb a 0x9004) (cleared (x .txfaults)) (x .txfaults);
+      txalarm = cond (eqb a 0xa070) (cleared (x .txalarm)) (x .txalarm);
+      rxalarm = cond (eqb a 0xa071) (cleared (x .rxalarm)) (x .rxalarm);
+      txwarning = cond (eqb a 0xa074) (cleared (x .txwarning)) (x .txwarning);
+      rxwarning = cond (eqb a 0xa075) (cleared (x .rxwarning)) (x .rxwarning);
+      link = x .link;
+      changed = cond (eqb a 0x9005) false (x .changed);
     }
 
-read-is : (r : Register) (a : Alarms) → readAlarms r a ≡ alarms.afterRead a r
+keeps-all : (a : ℕ) → single a ≡ false → (x : Alarms) → readAlarms a x ≡ x
 unfolding readAlarms
-read-is register.PmaControl a = refl
-read-is register.NvrControl a = refl
-read-is (register.Copy offset) a = refl
-read-is (register.Customer offset) a = refl
-read-is (register.Control i) a = refl
-read-is (register.Status zero) a = refl
-read-is (register.Status (suc zero)) a = refl
-read-is (register.Status (suc (suc zero))) a = refl
-read-is (register.Status (suc (suc (suc i)))) a = rw (other (suc (suc (suc i))) 0 (omega arith), other (suc (suc (suc i))) 1 (omega arith), other (suc (suc (suc i))) 2 (omega arith))
-read-is (register.Threshold k) a = refl
-read-is (register.Sample quantity low) a = refl
-read-is (register.Flags zero) a = refl
-read-is (register.Flags (suc zero)) a = refl
-read-is (register.Flags (suc (suc zero))) a = refl
-read-is (register.Flags (suc (suc (suc zero)))) a = refl
-read-is (register.Flags (suc (suc (suc (suc i))))) a = rw (other (suc (suc (suc (suc i)))) 0 (omega arith), other (suc (suc (suc (suc i)))) 1 (omega arith), other (suc (suc (suc (suc i)))) 2 (omega arith), other (suc (suc (suc (suc i)))) 3 (omega arith))
-read-is register.Unlisted a = refl
+keeps-all a s x = rw (apart a s 0x9003 refl, apart a s 0x9004 refl, apart a s 0x9005 refl, apart a s 0xa070 refl, apart a s 0xa071 refl, apart a s 0xa074 refl, apart a s 0xa075 refl)
 
-read-all : (t : List ℕ) (a : Alarms) (r : Register) → AlarmsFollow t (dataFrom r) a (readAlarms r a)
+read-is : {a : ℕ} {r : Register} → Located a r → (x : Alarms) → readAlarms a x ≡ alarms.afterRead x r
 unfolding readAlarms
-read-all t a r =
-    record {
-      rxfaults = cleared-if (fromStatus 0 r) (a .rxfaults);
-      txfaults = cleared-if (fromStatus 1 r) (a .txfaults);
-      txalarm = cleared-if (fromFlags 0 r) (a .txalarm);
-      rxalarm = cleared-if (fromFlags 1 r) (a .rxalarm);
-      txwarning = cleared-if (fromFlags 2 r) (a .txwarning);
-      rxwarning = cleared-if (fromFlags 3 r) (a .rxwarning);
-      link = refl;
-      changed = refl;
-    }
+read-is at0000 x = refl
+read-is at8000 x = refl
+read-is {a} (copy s c u t) x = keeps-all a s x
+read-is {a} (customer s c u t) x = keeps-all a s x
+read-is at9000 x = refl
+read-is at9001 x = refl
+read-is at9002 x = refl
+read-is at9003 x = refl
+read-is at9004 x = refl
+read-is at9005 x = refl
+read-is at9006 x = refl
+read-is at9007 x = refl
+read-is {a} (threshold s c u t) x = keeps-all a s x
+read-is ata060 x = refl
+read-is ata061 x = refl
+read-is ata064 x = refl
+read-is ata065 x = refl
+read-is ata066 x = refl
+read-is ata067 x = refl
+read-is ata068 x = refl
+read-is ata069 x = refl
+read-is ata070 x = refl
+read-is ata071 x = refl
+read-is ata074 x = refl
+read-is ata075 x = refl
+read-is {a} (unlisted s c u t) x = keeps-all a s x
 
-to-alarms : {m n : Module} {r : Reference} {l : List Entry} {e : Event} → Transition m n r l e → AlarmsFollow (m .thresholds) e (m .alarms) (n .alarms)
-to-alarms {m} (unchanged p) =
-    subst (λ (n : Module). AlarmsFollow (m .thresholds) nothing (m .alarms) (n .alarms)) (sym p) (keep-all (m .thresholds) (m .alarms) (m .alarms .controls))
-to-alarms {m} powering = power-all (m .thresholds) (m .alarms)
-to-alarms {m} (cutting cut) = keep-all (m .thresholds) (m .alarms) (m .alarms .controls)
-to-alarms {m} (resetting on) = reset-all (m .thresholds) (m .alarms)
-to-alarms {m} ticking = keep-all (m .thresholds) (m .alarms) (m .alarms .controls)
-to-alarms {m} (lining l) = lines-all (m .thresholds) (m .alarms) l
-to-alarms {m} (sampling s) = sample-all (m .thresholds) (m .alarms) s
-to-alarms {m} (addressing a) = keep-all (m .thresholds) (m .alarms) (m .alarms .controls)
-to-alarms {m} (commanding v) = keep-all (m .thresholds) (m .alarms) (m .alarms .controls)
-to-alarms {m} (writing offset v) = keep-all (m .thresholds) (m .alarms) (m .alarms .controls)
-to-alarms {m} (controlling i v) = keep-all (m .thresholds) (m .alarms) _
-to-alarms {m} (reading r increment) =
-    subst (AlarmsFollow (m .thresholds) (dataFrom r) (m .alarms)) (read-is r (m .alarms)) (read-all (m .thresholds) (m .alarms) r)
+cleared-at : (b : Bool) (l : Latch) → Follows l (cond b clears keeps) (cond b (cleared l) l)
+cleared-at true l = cleared-by
+cleared-at false l = kept
 
--- the alarms hold what the history says
-pub record AlarmsSound (t : List ℕ) (h : List Event) (a : Alarms) : Type 0 where
-  pub rxfaults : LatchSound rxFaults h (a .rxfaults)
-  pub txfaults : LatchSound txFaults h (a .txfaults)
-  pub txalarm : LatchSound (txAlarms t) h (a .txalarm)
-  pub rxalarm : LatchSound (rxAlarms t) h (a .rxalarm)
-  pub txwarning : LatchSound (txWarnings t) h (a .txwarning)
-  pub rxwarning : LatchSound (rxWarnings t) h (a .rxwarning)
-  pub link : a .link ≡ linkUp h
-  pub changed : a .changed ≡ linkChanged h
+-- the link alarm too
+forgot-at : (b c : Bool) → cond b false c ≡ sinceAfter (cond b clears keeps) 0 c
+forgot-at true c = refl
+forgot-at false c = refl
 
-pub no-alarms : (t : List ℕ) → AlarmsSound t [] noAlarms
-unfolding linkUp linkChanged
-no-alarms t =
-    record {
-      rxfaults = no-latch rxFaults;
-      txfaults = no-latch txFaults;
-      txalarm = no-latch (txAlarms t);
-      rxalarm = no-latch (rxAlarms t);
-      txwarning = no-latch (txWarnings t);
-      rxwarning = no-latch (rxWarnings t);
-      link = refl;
-      changed = refl;
-    }
+link-at : (b c : Bool) → c ≡ latestAfter (cond b clears keeps) 0 c
+link-at true c = refl
+link-at false c = refl
 
-alarms-step : {t : List ℕ} {e : Event} {h : List Event} {a a′ : Alarms} → AlarmsFollow t e a a′ → AlarmsSound t h a → AlarmsSound t (e ∷ h) a′
-unfolding linkUp linkChanged
-alarms-step {t} {e} {h} f ok =
-    record {
-      rxfaults = latch-step rxFaults h e (f .rxfaults) (ok .rxfaults);
-      txfaults = latch-step txFaults h e (f .txfaults) (ok .txfaults);
-      txalarm = latch-step (txAlarms t) h e (f .txalarm) (ok .txalarm);
-      rxalarm = latch-step (rxAlarms t) h e (f .rxalarm) (ok .rxalarm);
-      txwarning = latch-step (txWarnings t) h e (f .txwarning) (ok .txwarning);
-      rxwarning = latch-step (rxWarnings t) h e (f .rxwarning) (ok .rxwarning);
-      link = f .link ∙ ap (linkAfter e) (ok .link);
-      changed = f .changed ∙ ap₂ (changedAfter e) (ok .link) (ok .changed);
-    }
+read-all : (t : List ℕ) (h : List Event) (x : Alarms) (a : ℕ) → AlarmsFollow t h (dataFrom a) x (readAlarms a x)
+unfolding readAlarms
+read-all t h x a =
+    all t h x (cleared-at (eqb a 0x9003) (x .rxfaults)) (cleared-at (eqb a 0x9004) (x .txfaults)) (cleared-at (eqb a 0xa070) (x .txalarm))
+    (cleared-at (eqb a 0xa071) (x .rxalarm)) (cleared-at (eqb a 0xa074) (x .txwarning)) (cleared-at (eqb a 0xa075) (x .rxwarning))
+    (link-at (eqb a 0x9005) (x .link)) (forgot-at (eqb a 0x9005) (x .changed))
 
-pub step-alarms : (m : Module) → JobSound (m .job) (m .command) → (c : Call) (h : List Event) → AlarmsSound (m .thresholds) h (m .alarms)
-    → AlarmsSound (step m c .next .thresholds) (stepEvent (m .port) (referenceOf m) c ∷ h) (step m c .next .alarms)
-step-alarms m s c h ok =
-    subst (λ (f : Fixed). AlarmsSound (f .thresholds) (stepEvent (m .port) (referenceOf m) c ∷ h) (step m c .next .alarms))
-    (sym (step-fixed m s c)) (alarms-step (to-alarms (transition m s c)) ok)
+to-alarms : {m n : Module} {x : Said} {y : Reaction} → Transition m n x y → (h : List Event) → m .alarms .link ≡ latestHas link h 0
+    → AlarmsFollow (m .thresholds) h (y .event) (m .alarms) (n .alarms)
+to-alarms {m} (unchanged p q) h up =
+    subst (λ (n : Module). AlarmsFollow (m .thresholds) h nothing (m .alarms) (n .alarms)) (sym p) (nothing-all (m .thresholds) h (m .alarms) (m .alarms .controls))
+to-alarms {m} powering h up = power-all (m .thresholds) h (m .alarms)
+to-alarms {m} (cutting cut) h up = nothing-all (m .thresholds) h (m .alarms) (m .alarms .controls)
+to-alarms {m} (resetting on) h up = reset-all (m .thresholds) h (m .alarms)
+to-alarms {m} ticking h up = tick-all (m .thresholds) h (m .alarms)
+to-alarms {m} (lining l) h up = lines-all (m .thresholds) h (m .alarms) l up
+to-alarms {m} (sampling s) h up = sample-all (m .thresholds) s h (m .alarms)
+to-alarms {m} (addressing a) h up = nothing-all (m .thresholds) h (m .alarms) (m .alarms .controls)
+to-alarms {m} (commanding v free) h up = nothing-all (m .thresholds) h (m .alarms) (m .alarms .controls)
+to-alarms {m} (writing offset v) h up = nothing-all (m .thresholds) h (m .alarms) (m .alarms .controls)
+to-alarms {m} (controlling i k mask law v) h up = nothing-all (m .thresholds) h (m .alarms) _
+to-alarms {m} (reading increment) h up =
+    let a = m .bus .address in
+    subst (AlarmsFollow (m .thresholds) h (dataFrom a) (m .alarms)) (read-is (located a) (m .alarms)) (read-all (m .thresholds) h (m .alarms) a)
+
+pub alarms-sound : {m n : Module} {x : Said} {y : Reaction} → Transition m n x y → (h : List Event) → AlarmsSound (m .thresholds) h (m .alarms)
+    → AlarmsSound (m .thresholds) (y .event ∷ h) (n .alarms)
+alarms-sound t h ok = follows-on (to-alarms t h (ok .up)) ok
 
 -- ---- what the registers read
-stands-bit : {s : Source} {h : List Event} {l : Latch} → LatchSound s h l → (i : ℕ) → bit i (latched l) ≡ stands true s h i
+stands-bit : {s : Source} {h : List Event} {l : Latch} → LatchSound s h l → (i : ℕ) → bit i (latched l) ≡ (latestHas s h i || someSince s h i)
 stands-bit {l = l} ok i = bit-or i (l .live) (l .since) ∙ ap₂ _||_ (ok .live i) (ok .since i)
 
-share-bits : (a w : ℕ) {p : ℕ → Bool} → ((i : ℕ) → bit i a ≡ p i) → share a w ≡ shares p w
+share-bits : (a w : ℕ) {p : ℕ → Bool} → ((i : ℕ) → bit i a ≡ p i) → share a w ≡ shares w p
 unfolding share
-share-bits a w k = any-same 16 (λ i. ap (λ (x : Bool). x && bit i w) (k i))
+share-bits a w k = any-same 16 (λ i. and-comm (bit i a) (bit i w) ∙ ap (λ (x : Bool). bit i w && x) (k i))
 
 -- bit 1 alone
 bit-one : (x : Bool) (i : ℕ) → getD (false ∷ x ∷ false ∷ []) i false ≡ (eqb i 1 && x)
@@ -304,7 +314,7 @@ three-bits x y z (suc (suc (suc i))) = rw (other (suc (suc (suc i))) 2 (omega ar
 -- faults, and a summary of flags in bit 1
 alarm-bit : {s f : Source} {h : List Event} {faults flags : Latch} (w : ℕ) → LatchSound s h faults → LatchSound f h flags → (i : ℕ)
     → bit i (bitOr (latched faults) (ofBits (false ∷ share (latched flags) w ∷ false ∷ [])))
-    ≡ (stands true s h i || eqb i 1 && shares (stands true f h) w)
+    ≡ ((latestHas s h i || someSince s h i) || eqb i 1 && shares w (λ k. latestHas f h k || someSince f h k))
 alarm-bit {faults = faults} {flags = flags} w p q i =
     bit-or i (latched faults) (ofBits (false ∷ share (latched flags) w ∷ false ∷ []))
     ∙ ap₂ _||_ (stands-bit p i)
@@ -315,13 +325,13 @@ module _ (m : Module) (h : List Event) (ok : AlarmsSound (m .thresholds) h (m .a
   abbrev a : Alarms
   a = m .alarms
 
-  rx-bit : (i : ℕ) → bit i (rxAlarm a) ≡ rxAlarmBit (m .thresholds) (referenceOf m) h i
+  pub rx-bit : (i : ℕ) → bit i (rxAlarm a) ≡ rxAlarmBit (modelOf m h) i
   rx-bit i = rw on (alarm-bit (a .controls .rxflag) (ok .rxfaults) (ok .rxalarm) i)
 
-  tx-bit : (i : ℕ) → bit i (txAlarm a) ≡ txAlarmBit (m .thresholds) (referenceOf m) h i
+  pub tx-bit : (i : ℕ) → bit i (txAlarm a) ≡ txAlarmBit (modelOf m h) i
   tx-bit i = rw on (alarm-bit (a .controls .txflag) (ok .txfaults) (ok .txalarm) i)
 
-  lasi-bit : (i : ℕ) → bit i (lasiStatus a) ≡ lasiBit (m .thresholds) (referenceOf m) h i
+  pub lasi-bit : (i : ℕ) → bit i (lasiStatus a) ≡ lasiBit (modelOf m h) i
   lasi-bit i =
       bit-ofBits (a .changed ∷ share (txAlarm a) (a .controls .txalarm) ∷ share (rxAlarm a) (a .controls .rxalarm) ∷ []) i
       ∙ three-bits (a .changed) (share (txAlarm a) (a .controls .txalarm)) (share (rxAlarm a) (a .controls .rxalarm)) i
@@ -329,40 +339,15 @@ module _ (m : Module) (h : List Event) (ok : AlarmsSound (m .thresholds) h (m .a
       cond (eqb i 2) (share-bits (rxAlarm a) (a .controls .rxalarm) rx-bit k)
       (cond (eqb i 1) (share-bits (txAlarm a) (a .controls .txalarm) tx-bit k) (cond (eqb i 0) (ok .changed k) false)))
 
-  flag-bit : {s : Source} {l : Latch} → LatchSound s h l → (i : ℕ) → bit i (latched l) ≡ stands (m .powered) s h i
+  pub flag-bit : {s : Source} {l : Latch} → LatchSound s h l → (i : ℕ) → bit i (latched l) ≡ stands (modelOf m h) s i
   flag-bit p i = rw on (stands-bit p i)
 
-  pub alarm-registers : AlarmRegisters (m .thresholds) m (referenceOf m) h
-  alarm-registers =
-      record {
-        at9003 = rx-bit;
-        at9004 = tx-bit;
-        at9005 = lasi-bit;
-        ata070 = flag-bit (ok .txalarm);
-        ata071 = flag-bit (ok .rxalarm);
-        ata074 = flag-bit (ok .txwarning);
-        ata075 = flag-bit (ok .rxwarning);
-      }
-
 -- ---- the line
-pub line-is : (m : Module) (h : List Event) → AlarmsSound (m .thresholds) h (m .alarms)
-    → alarmLine (m .powered) (m .alarms) ≡ lineByHistory (m .thresholds) (referenceOf m) h
+pub line-is : (m : Module) (h : List Event) → AlarmsSound (m .thresholds) h (m .alarms) → lineOf m ≡ lineByHistory (modelOf m h)
 unfolding lineByHistory
 line-is m h ok = go (m .powered) refl
   where
     go : (b : Bool) → m .powered ≡ b
-        → (b && share (lasiStatus (m .alarms)) (m .alarms .controls .lasi)) ≡ (b && shares (lasiBit (m .thresholds) (referenceOf m) h) (m .alarms .controls .lasi))
+        → (b && share (lasiStatus (m .alarms)) (m .alarms .controls .lasi)) ≡ (b && shares (m .alarms .controls .lasi) (lasiBit (modelOf m h)))
     go true p = share-bits (lasiStatus (m .alarms)) (m .alarms .controls .lasi) (lasi-bit m h ok p)
     go false p = refl
-
-pub run-lines : (m : Module) → JobSound (m .job) (m .command) → (h : List Event) → AlarmsSound (m .thresholds) h (m .alarms) → (cs : List Call)
-    → alarmLines m cs ≡ linesByHistory (m .port) (m .thresholds) (referenceOf m) h cs
-unfolding alarmLines linesByHistory
-run-lines m s h ok [] = ap (λ (b : Bool). b ∷ []) (line-is m h ok)
-run-lines m s h ok (c ∷ cs) =
-    let n = step m c .next in
-    let e = stepEvent (m .port) (referenceOf m) c in
-    ap₂ _∷_ (line-is m h ok)
-    (run-lines n (step-sound m s c) (e ∷ h) (step-alarms m s c h ok) cs
-    ∙ ap (λ (f : Fixed). linesByHistory (f .port) (f .thresholds) (referenceOf n) (e ∷ h) cs) (step-fixed m s c)
-    ∙ ap (λ (r : Reference). linesByHistory (m .port) (m .thresholds) r (e ∷ h) cs) (step-ref m s c))

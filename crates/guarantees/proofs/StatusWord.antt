@@ -7,7 +7,7 @@ use mathlib.Core.Path.{_≡_, refl, sym, ap, ap₂, _∙_}
 use lib.Bits.{bitAnd, bitOr, and-le-l, and-le-r, or-lt, or-zero-r}
 use Rattle.words.specs.Words.{bit}
 use Rattle.words.proofs.Laws.{bit-and, bit-or, bits-equal}
-use Rattle.guarantees.specs.Reference.{withStatus, busy, shown}
+use Rattle.guarantees.specs.Reference.{withStatus, busy, idleOnceShown}
 
 -- ---- `&` over `|`
 distributes : (a b m : Bool) → ((a || b) && m) ≡ (a && m || b && m)
@@ -77,7 +77,7 @@ busy-word k h free {e} f =
     ∙ busy-status free f
 
 -- a read makes done and failed idle
-pub shown-word : (k : ℕ) → Kept k → (free : Bool) {e : ℕ} → Ended e → shown (bitOr k (4 * status free e)) ≡ bitOr k (4 * status free 0)
+pub shown-word : (k : ℕ) → Kept k → (free : Bool) {e : ℕ} → Ended e → idleOnceShown (bitOr k (4 * status free e)) ≡ bitOr k (4 * status free 0)
 unfolding bit
 shown-word k h true idle = rw (status-bit k h 2 0 refl)
 shown-word k h true done = rw (status-bit k h 2 4 refl) (status-put k h 0 1 (omega arith) refl)

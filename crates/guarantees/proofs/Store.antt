@@ -2,7 +2,7 @@
 -- Assumes nothing.
 use Prim.Native.Nat.{ℕ, _+_, _/_, _%_, _≤_}
 use native.Mathlib.Omega.{arith}
-use mathlib.Core.Bool.{Bool, true, false, cond, _&&_}
+use mathlib.Core.Bool.{Bool, true, false, cond, not, _&&_}
 use mathlib.Core.List.{List, [], _∷_, _++_}
 use mathlib.Core.Logic.{_≢_}
 use mathlib.Core.Path.{_≡_, refl, sym, ap, _∙_, subst}
@@ -11,6 +11,7 @@ use lib.ListN.{length, getD, set, take, length-set}
 use lib.Seq.{getD-set-other, take-set-le}
 use borrow.Author.Tests.{leb-true, ltb-true, le-leb}
 use Rattle.words.specs.Words.{bit}
+use Rattle.registers.specs.Map.{registerAt}
 use Rattle.registers.specs.declared.Register.{Register}
 use Rattle.registers.specs.declared.Register.the-variants as register
 use Rattle.nvr.specs.Command.{keptBits, commandOf}
@@ -21,14 +22,14 @@ use Rattle.work.specs.Work.{workOf, afterWork}
 use Rattle.jobs.specs.declared.Job.{Job as ModuleJob}
 use Rattle.store.specs.declared.Cut.{Cut}
 use Rattle.store.specs.declared.Cut.the-variants.{Clean, Torn}
+use Rattle.answers.specs.Answers.{Said}
 use Rattle.calls.specs.Calls.{step, run}
 use Rattle.calls.specs.declared.Call.{Call}
 use Rattle.xenpak.specs.declared.Module.{Module}
-use Rattle.guarantees.specs.Reference.{Job, none, load, burn, Reference, withStore, withCopy, withAddress, advanced, tickRef, cutRef, tornStore, customerOffset, commandJob, commanded, readRef, incremented, stepRef}
+use Rattle.guarantees.specs.Reference.{Job, none, load, burn, Reference, withStore, withCopy, withAddress, withWord, customerOffset, idleOnceShown, tornStore, cutRef, advanced, tickRef, commandJob, commanded, readRef, incremented, stepRef}
 use Rattle.guarantees.specs.BurnLog.{Entry, tickLog, cutLog, stepLog, burnLog, applied}
-use Rattle.guarantees.specs.History.{Event}
 use Rattle.guarantees.proofs.StatusWord.{kept-masked, idle, done, failed, Ended}
-use Rattle.guarantees.proofs.Transition.{jobRef, referenceOf, BurnSound, JobSound, Transition, unchanged, powering, cutting, resetting, ticking, lining, sampling, addressing, commanding, writing, controlling, reading, transition, new-job, step-ref, Fixed, step-fixed}
+use Rattle.guarantees.proofs.Transition.{jobRef, referenceOf, BurnSound, JobSound, Reaction, Transition, unchanged, powering, cutting, resetting, ticking, lining, sampling, addressing, commanding, writing, controlling, reading, transition, new-job, step-ref, Fixed, step-fixed}
 
 -- ---- every job is sound
 customer-low : (o : ℕ) → customerOffset o ≡ true → 119 ≤ o
@@ -56,13 +57,10 @@ command-burns : (v : ℕ) → BurnSound (commandJob v)
 unfolding commandJob
 command-burns v =
     let o = v / 256 in
-    cond-all BurnSound (eqb (v % 4) 3)
-    (λ _. cond-all BurnSound (bit 5 v) (λ _. omega arith) (λ _. tt))
-    (λ _. cond-all BurnSound (eqb (v % 4) 2)
-    (λ _. cond-all BurnSound (bit 5 v)
-    (λ _. cond-all BurnSound (customerOffset o) (λ t. (customer-low o t, omega arith, customer-high o t)) (λ _. tt))
-    (λ _. tt))
-    (λ _. tt))
+    cond-all BurnSound (eqb (v % 4) 3) (λ _. cond-all BurnSound (bit 5 v) (λ _. omega arith) (λ _. tt))
+    (λ _. cond-all BurnSound (not (eqb (v % 4) 2)) (λ _. tt)
+    (λ _. cond-all BurnSound (not (bit 5 v)) (λ _. tt)
+    (λ _. cond-all BurnSound (customerOffset o) (λ t. (customer-low o t, omega arith, customer-high o t)) (λ _. tt))))
 
 command-ended : (c : Command) → Ended (job.commandJob c .ended)
 command-ended command.LoadAll = idle
@@ -113,8 +111,8 @@ no-job-sound = record { kept = refl; ended = idle; burns = tt }
 first-sound : JobSound job.firstLoad job.firstCommand
 first-sound = record { kept = refl; ended = idle; burns = tt }
 
-to-sound : {m n : Module} {r : Reference} {l : List Entry} {e : Event} → Transition m n r l e → JobSound (m .job) (m .command) → JobSound (n .job) (n .command)
-to-sound (unchanged p) h = subst (λ (x : Module). JobSound (x .job) (x .command)) (sym p) h
+to-sound : {m n : Module} {x : Said} {y : Reaction} → Transition m n x y → JobSound (m .job) (m .command) → JobSound (n .job) (n .command)
+to-sound (unchanged p q) h = subst (λ (x : Module). JobSound (x .job) (x .command)) (sym p) h
 to-sound powering h = first-sound
 to-sound (cutting cut) h = h
 to-sound (resetting on) h = first-sound
@@ -122,10 +120,10 @@ to-sound {m} ticking h = tick-sound (m .job) (m .command) h
 to-sound (lining l) h = h
 to-sound (sampling s) h = h
 to-sound (addressing a) h = h
-to-sound (commanding v) h = command-sound v
+to-sound (commanding v free) h = command-sound v
 to-sound (writing offset v) h = h
-to-sound (controlling i v) h = h
-to-sound {m} (reading r increment) h = read-sound (m .job) (m .command) h r
+to-sound (controlling i k mask law v) h = h
+to-sound {m} (reading increment) h = read-sound (m .job) (m .command) h (registerAt (m .bus .address))
 
 pub step-sound : (m : Module) → JobSound (m .job) (m .command) → (c : Call) → JobSound (step m c .next .job) (step m c .next .command)
 step-sound m h c = to-sound (transition m h c) h
@@ -148,26 +146,21 @@ cut-store s (load due last) cut = refl
 cut-store s (burn due last) Clean = refl
 cut-store s (burn due last) (Torn byte) = refl
 
-read-store : (r : Reference) (x : Register) → readRef r x .store ≡ r .store
+read-store : (r : Reference) (a : ℕ) → readRef r a .store ≡ r .store
 unfolding readRef
-read-store r register.PmaControl = refl
-read-store r register.NvrControl = refl
-read-store r (register.Copy offset) = refl
-read-store r (register.Customer offset) = refl
-read-store r (register.Control i) = refl
-read-store r (register.Status i) = refl
-read-store r (register.Threshold k) = refl
-read-store r (register.Sample quantity low) = refl
-read-store r (register.Flags i) = refl
-read-store r register.Unlisted = refl
+read-store r a = go (eqb a 0x8000)
+  where
+    go : (b : Bool) → cond b (withWord (idleOnceShown (r .word)) (r .job) r) r .store ≡ r .store
+    go true = refl
+    go false = refl
 
-reads-store : (r : Reference) (x : Register) (a : ℕ) (increment : Bool) → cond increment (withAddress a (readRef r x)) (readRef r x) .store ≡ r .store
-reads-store r x a true = read-store r x
-reads-store r x a false = read-store r x
+reads-store : (r : Reference) (a b : ℕ) (increment : Bool) → cond increment (withAddress b (readRef r a)) (readRef r a) .store ≡ r .store
+reads-store r a b true = read-store r a
+reads-store r a b false = read-store r a
 
-to-store : {m n : Module} {r : Reference} {l : List Entry} {e : Event} → Transition m n r l e → r .store ≡ applied l (m .store)
+to-store : {m n : Module} {x : Said} {y : Reaction} → Transition m n x y → y .reference .store ≡ applied (y .entries) (m .store)
 unfolding applied cutRef commanded
-to-store (unchanged p) = refl
+to-store (unchanged p q) = refl
 to-store powering = refl
 to-store {m} (cutting cut) = cut-store (m .store) (jobRef (m .job)) cut
 to-store (resetting on) = refl
@@ -175,10 +168,10 @@ to-store {m} ticking = tick-store (referenceOf m) (jobRef (m .job))
 to-store (lining l) = refl
 to-store (sampling s) = refl
 to-store (addressing a) = refl
-to-store (commanding v) = refl
+to-store (commanding v free) = refl
 to-store (writing offset v) = refl
-to-store (controlling i v) = refl
-to-store {m} (reading r increment) = reads-store (referenceOf m) r (incremented (m .bus .address)) increment
+to-store (controlling i k mask law v) = refl
+to-store {m} (reading increment) = reads-store (referenceOf m) (m .bus .address) (incremented (m .bus .address)) increment
 
 applied-append : (l k : List Entry) (s : List ℕ) → applied (l ++ k) s ≡ applied k (applied l s)
 unfolding applied
@@ -217,8 +210,8 @@ cut-entries (load due last) cut h = tt
 cut-entries (burn due last) Clean h = tt
 cut-entries (burn due last) (Torn byte) h = (customer due (omega arith) (omega arith), tt)
 
-to-entries : {m n : Module} {r : Reference} {l : List Entry} {e : Event} → Transition m n r l e → JobSound (m .job) (m .command) → AllCustomer l
-to-entries (unchanged p) h = tt
+to-entries : {m n : Module} {x : Said} {y : Reaction} → Transition m n x y → JobSound (m .job) (m .command) → AllCustomer (y .entries)
+to-entries (unchanged p q) h = tt
 to-entries powering h = tt
 to-entries {m} (cutting cut) h = cut-entries (jobRef (m .job)) cut (h .burns)
 to-entries (resetting on) h = tt
@@ -226,10 +219,10 @@ to-entries {m} ticking h = tick-entries (m .copy) (jobRef (m .job)) (h .burns)
 to-entries (lining l) h = tt
 to-entries (sampling s) h = tt
 to-entries (addressing a) h = tt
-to-entries (commanding v) h = tt
+to-entries (commanding v free) h = tt
 to-entries (writing offset v) h = tt
-to-entries (controlling i v) h = tt
-to-entries (reading r increment) h = tt
+to-entries (controlling i k mask law v) h = tt
+to-entries (reading increment) h = tt
 
 pub log-customer : (m : Module) → JobSound (m .job) (m .command) → (cs : List Call) → AllCustomer (burnLog (m .port) (referenceOf m) cs)
 unfolding burnLog

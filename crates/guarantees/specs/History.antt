@@ -1,271 +1,249 @@
--- The history rule (document 01: the history rule): which alarm bits stand, and the alarm line, from the accepted calls,
--- newest first. Power, the address that a read is from and the controls are the reference model's.
+-- The history rule (document 01: the history rule): which alarm bits stand, and the alarm line, from the accepted calls.
+-- Power, the address that a read is from and the controls are the reference model's. Of the code it takes the bits of a
+-- word and the types of the calls.
 -- Assumes nothing.
-use Prim.Native.Nat.{ℕ}
-use mathlib.Core.Bool.{Bool, false, cond, not, _&&_, _||_}
+use Prim.Native.Nat.{ℕ, _+_, _-_, _*_}
+use mathlib.Core.Bool.{Bool, false, not, _&&_, _||_}
 use mathlib.Core.List.{List, [], _∷_}
 use lib.Dec.{eqb}
-use lib.IntN.{ℤ, pos, negsuc}
+use lib.IntN.{ℤ, pos}
 use lib.ListN.{getD}
-use lib.Signed.{leZ}
+use lib.Signed.{ltZ}
 use Rattle.words.specs.Words.{bit, anyBit}
-use Rattle.mdio.specs.Frame.{requestOf}
-use Rattle.mdio.specs.declared.Request.{Request}
-use Rattle.mdio.specs.declared.Request.the-variants as request
-use Rattle.registers.specs.Map.{registerAt}
-use Rattle.registers.specs.declared.Register.{Register}
-use Rattle.registers.specs.declared.Register.the-variants.{PmaControl, NvrControl, Copy, Customer, Control, Status, Threshold, Sample, Flags, Unlisted}
-use Rattle.dom.specs.Codes.{temperature, bias, transmit, receive}
-use Rattle.thresholds.specs.Thresholds.{thresholdsOf}
-use Rattle.dom.specs.declared.Sample.{Sample as Reading}
-use Rattle.flags.specs.Flags.{Side, high, low, alarm, warning, codesOf, crossed}
+use Rattle.dom.specs.declared.Sample.{Sample}
 use Rattle.alarms.specs.declared.Lines.{Lines}
 use Rattle.calls.specs.declared.Call.{Call}
 use Rattle.calls.specs.declared.Call.the-variants as call
-use Rattle.guarantees.specs.Reference.{Reference, stepRef}
+use Rattle.guarantees.specs.Reference.{if_then_else_, Reference, initial, signed, accepts, Frame, silent, sets, writes, reads, frameOf, control, stepRef}
 
--- ---- events: what an accepted call is to the alarms
+-- ---- events: what a call is to what is read after it
 pub data Event : Type 0 where
-  -- a refused call, and any that bears on no alarm
+  -- a refused call, and any that bears on nothing here
   nothing : Event
   poweredOn : Event
   wasReset : Event
+  ticked : Event
   gotLines : Lines → Event
-  gotSample : Reading → Event
-  -- a data answer from a register
-  dataFrom : Register → Event
+  gotSample : Sample → Event
+  -- a data answer from an address
+  dataFrom : (address : ℕ) → Event
 
 -- a write with bit 15 set at 0000 is a reset
-abbrev pub writeEvent : ℕ → Register → Event
-writeEvent v PmaControl = cond (bit 15 v) wasReset nothing
-writeEvent v NvrControl = nothing
-writeEvent v (Copy offset) = nothing
-writeEvent v (Customer offset) = nothing
-writeEvent v (Control i) = nothing
-writeEvent v (Status i) = nothing
-writeEvent v (Threshold k) = nothing
-writeEvent v (Sample quantity half) = nothing
-writeEvent v (Flags i) = nothing
-writeEvent v Unlisted = nothing
+unfoldable pub frameEvent : (address : ℕ) → Frame → Event
+frameEvent address silent = nothing
+frameEvent address (sets a) = nothing
+frameEvent address (writes v) = if eqb address 0x0000 && bit 15 v then wasReset else nothing
+frameEvent address (reads increment) = dataFrom address
 
-unfoldable pub frameEvent : ℕ → Request → Event
-frameEvent address request.Silent = nothing
-frameEvent address (request.SetAddress a) = nothing
-frameEvent address (request.Write v) = writeEvent v (registerAt address)
-frameEvent address request.Read = dataFrom (registerAt address)
-frameEvent address request.ReadIncrement = dataFrom (registerAt address)
+-- of an accepted call
+unfoldable pub callEvent : (port : ℕ) → Reference → Call → Event
+callEvent port r call.PowerOn = poweredOn
+callEvent port r (call.Cut cut) = nothing
+callEvent port r call.ResetPin = wasReset
+callEvent port r (call.Frame word) = frameEvent (r .address) (frameOf port word)
+callEvent port r call.Tick = ticked
+callEvent port r (call.Lines l) = gotLines l
+callEvent port r (call.Sample s) = gotSample s
 
--- not below D800 nor above 7D00, as signed
-abbrev pub inRange : ℤ → Bool
-inRange t = leZ (negsuc 0x27ff) t && leZ t (pos 0x7d00)
+unfoldable pub stepEvent : (port : ℕ) → Reference → Call → Event
+stepEvent port r c = if accepts r c then callEvent port r c else nothing
 
--- of a powered module's call, and of one that is off
-unfoldable pub onEvent : ℕ → Reference → Call → Event
-onEvent port r call.PowerOn = nothing
-onEvent port r (call.Cut cut) = nothing
-onEvent port r call.ResetPin = wasReset
-onEvent port r (call.Frame word) = frameEvent (r .address) (requestOf word port)
-onEvent port r call.Tick = nothing
-onEvent port r (call.Lines l) = gotLines l
-onEvent port r (call.Sample s) = cond (inRange (s .temperature)) (gotSample s) nothing
+-- ---- the model of a module: what making fixed, the reference model, and the events of its calls, newest first
+pub record Model : Type 0 where
+  pub port : ℕ
+  pub thresholds : List ℕ
+  pub reference : Reference
+  pub history : List Event
 
-unfoldable pub offEvent : Call → Event
-offEvent call.PowerOn = poweredOn
-offEvent (call.Cut cut) = nothing
-offEvent call.ResetPin = nothing
-offEvent (call.Frame word) = nothing
-offEvent call.Tick = nothing
-offEvent (call.Lines l) = nothing
-offEvent (call.Sample s) = nothing
+abbrev pub model : ℕ → List ℕ → Reference → List Event → Model
+model p t r h = record { port = p; thresholds = t; reference = r; history = h }
 
--- the event of a call on the reference model's state before it
-unfoldable pub stepEvent : ℕ → Reference → Call → Event
-stepEvent port r c = cond (r .powered) (onEvent port r c) (offEvent c)
+abbrev pub fresh : (port : ℕ) (image thresholds : List ℕ) → Model
+fresh port image thresholds = model port thresholds (initial image) []
 
--- the events of a list of calls, newest first, on those before
-unfoldable pub events : ℕ → Reference → List Event → List Call → List Event
-events port r h [] = h
-events port r h (c ∷ cs) = events port (stepRef port r c) (stepEvent port r c ∷ h) cs
+abbrev pub stepModel : Model → Call → Model
+stepModel m c =
+    model (m .port) (m .thresholds) (stepRef (m .port) (m .reference) c)
+    (stepEvent (m .port) (m .reference) c ∷ m .history)
 
--- ---- what an event is to one alarm register
-pub data Effect : Type 0 where
-  keeps : Effect
-  -- it ends what was seen before, or the latest too
-  clears : Effect
-  forgets : Effect
-  -- it is a lines call or a sample that has these bits
-  gives : (ℕ → Bool) → Effect
+unfoldable pub runModel : Model → List Call → Model
+runModel m [] = m
+runModel m (c ∷ cs) = runModel (stepModel m c) cs
 
--- what each event is to a register
-abbrev pub Source : Type 0
-Source = Event → Effect
+-- ---- quantities, thresholds, readings
+pub data Quantity : Type 0 where
+  temperature bias transmit receive : Quantity
 
--- the data is from status register k: 0 is 9003, 1 is 9004, 2 is 9005
-abbrev pub fromStatus : ℕ → Register → Bool
-fromStatus k PmaControl = false
-fromStatus k NvrControl = false
-fromStatus k (Copy offset) = false
-fromStatus k (Customer offset) = false
-fromStatus k (Control i) = false
-fromStatus k (Status i) = eqb i k
-fromStatus k (Threshold j) = false
-fromStatus k (Sample quantity half) = false
-fromStatus k (Flags i) = false
-fromStatus k Unlisted = false
+-- the code of two bytes at an address, high byte first
+abbrev pub thresholdAt : List ℕ → (address : ℕ) → ℕ
+thresholdAt t a = getD t (a - 0xa000) 0 * 256 + getD t (a + 1 - 0xa000) 0
 
--- the data is from flag register k: 0 is A070, 1 is A071, 2 is A074, 3 is A075
-abbrev pub fromFlags : ℕ → Register → Bool
-fromFlags k PmaControl = false
-fromFlags k NvrControl = false
-fromFlags k (Copy offset) = false
-fromFlags k (Customer offset) = false
-fromFlags k (Control i) = false
-fromFlags k (Status i) = false
-fromFlags k (Threshold j) = false
-fromFlags k (Sample quantity half) = false
-fromFlags k (Flags i) = eqb i k
-fromFlags k Unlisted = false
+-- a quantity's threshold, so many bytes after its first: high alarm 0, low alarm 2, high warning 4, low warning 6.
+-- Temperature's are signed
+abbrev pub threshold : List ℕ → Quantity → (bytes : ℕ) → ℤ
+threshold t temperature bytes = signed (thresholdAt t (0xa000 + bytes))
+threshold t bias bytes = pos (thresholdAt t (0xa010 + bytes))
+threshold t transmit bytes = pos (thresholdAt t (0xa018 + bytes))
+threshold t receive bytes = pos (thresholdAt t (0xa020 + bytes))
 
-abbrev pub clearsIf : Bool → Effect
-clearsIf b = cond b clears keeps
+abbrev pub reading : Sample → Quantity → ℤ
+reading s temperature = s .temperature
+reading s bias = pos (s .bias)
+reading s transmit = pos (s .transmit)
+reading s receive = pos (s .receive)
 
--- faults: power-on forgets them, a reset or a data answer from their register (status k) clears them
-abbrev pub faults : ℕ → (Lines → ℕ → Bool) → Source
-faults k bits nothing = keeps
-faults k bits poweredOn = forgets
-faults k bits wasReset = clears
-faults k bits (gotLines l) = gives (bits l)
-faults k bits (gotSample s) = keeps
-faults k bits (dataFrom r) = clearsIf (fromStatus k r)
+-- the bytes before a level's high threshold; its low one is the next
+abbrev pub alarm : ℕ
+alarm = 0
 
--- 9003: receive faults, mask 0039; 9004: transmit faults, mask 03D9
-abbrev pub rxFaults : Source
-rxFaults = faults 0 (λ l i. bit i (l .receive) && bit i 0x0039)
+abbrev pub warning : ℕ
+warning = 4
 
-abbrev pub txFaults : Source
-txFaults = faults 1 (λ l i. bit i (l .transmit) && bit i 0x03d9)
+-- high above its threshold, low below, equality neither
+abbrev pub high : List ℕ → (level : ℕ) → Sample → Quantity → Bool
+high t level s q = ltZ (threshold t q level) (reading s q)
 
--- flags: likewise over samples, but a reset also forgets the latest; their register is flags k
-abbrev pub flags : ℕ → (Reading → ℕ → Bool) → Source
-flags k bits nothing = keeps
-flags k bits poweredOn = forgets
-flags k bits wasReset = forgets
-flags k bits (gotLines l) = keeps
-flags k bits (gotSample s) = gives (bits s)
-flags k bits (dataFrom r) = clearsIf (fromFlags k r)
+abbrev pub low : List ℕ → (level : ℕ) → Sample → Quantity → Bool
+low t level s q = ltZ (reading s q) (threshold t q (level + 2))
 
 -- A070 and A074: temperature high 7, low 6; bias 3, 2; transmit power 1, 0
-abbrev pub txFlag : (Side → ℕ → Bool) → ℕ → Bool
-txFlag flag i =
-    cond (eqb i 7) (flag high temperature)
-    (cond (eqb i 6) (flag low temperature)
-    (cond (eqb i 3) (flag high bias)
-    (cond (eqb i 2) (flag low bias)
-    (cond (eqb i 1) (flag high transmit) (cond (eqb i 0) (flag low transmit) false)))))
+abbrev pub txFlags : List ℕ → (level : ℕ) → Sample → ℕ → Bool
+txFlags t level s i =
+    if eqb i 7 then high t level s temperature else
+    if eqb i 6 then low t level s temperature else
+    if eqb i 3 then high t level s bias else
+    if eqb i 2 then low t level s bias else
+    if eqb i 1 then high t level s transmit else
+    if eqb i 0 then low t level s transmit else
+    false
 
 -- A071 and A075: receive power high 7, low 6
-abbrev pub rxFlag : (Side → ℕ → Bool) → ℕ → Bool
-rxFlag flag i = cond (eqb i 7) (flag high receive) (cond (eqb i 6) (flag low receive) false)
+abbrev pub rxFlags : List ℕ → (level : ℕ) → Sample → ℕ → Bool
+rxFlags t level s i =
+    if eqb i 7 then high t level s receive else
+    if eqb i 6 then low t level s receive else
+    false
 
--- the flags of a sample at a level, by the thresholds: high above, low below
-abbrev pub flagged : List ℕ → (Side → ℕ) → Reading → Side → ℕ → Bool
-flagged thresholds level s = crossed (thresholdsOf thresholds) (codesOf s) level
+-- ---- what an event is to an alarm
+pub data Effect : Type 0 where
+  -- nothing
+  keeps : Effect
+  -- it ends what was seen before, but not the latest
+  clears : Effect
+  -- it ends the latest too
+  forgets : Effect
+  -- it is a lines call, or a sample, that has these bits
+  gives : (ℕ → Bool) → Effect
 
--- A070, A071, A074, A075
-abbrev pub txAlarms : List ℕ → Source
-txAlarms thresholds = flags 0 (λ s. txFlag (flagged thresholds alarm s))
+-- after the older events
+abbrev pub Source : Type 0
+Source = (older : List Event) → Event → Effect
 
-abbrev pub rxAlarms : List ℕ → Source
-rxAlarms thresholds = flags 1 (λ s. rxFlag (flagged thresholds alarm s))
+-- a data answer clears the register that it is from
+abbrev pub clearsAt : (register address : ℕ) → Effect
+clearsAt register a = if eqb a register then clears else keeps
 
-abbrev pub txWarnings : List ℕ → Source
-txWarnings thresholds = flags 2 (λ s. txFlag (flagged thresholds warning s))
+-- over lines calls: power-on forgets, a reset or a data answer from the register clears
+abbrev pub overLines : (register : ℕ) → (List Event → Lines → ℕ → Bool) → Source
+overLines register bits older nothing = keeps
+overLines register bits older poweredOn = forgets
+overLines register bits older wasReset = clears
+overLines register bits older ticked = keeps
+overLines register bits older (gotLines l) = gives (bits older l)
+overLines register bits older (gotSample s) = keeps
+overLines register bits older (dataFrom a) = clearsAt register a
 
-abbrev pub rxWarnings : List ℕ → Source
-rxWarnings thresholds = flags 3 (λ s. rxFlag (flagged thresholds warning s))
+-- likewise over samples, but a reset also forgets the latest
+abbrev pub overSamples : (register : ℕ) → (Sample → ℕ → Bool) → Source
+overSamples register bits older nothing = keeps
+overSamples register bits older poweredOn = forgets
+overSamples register bits older wasReset = forgets
+overSamples register bits older ticked = keeps
+overSamples register bits older (gotLines l) = keeps
+overSamples register bits older (gotSample s) = gives (bits s)
+overSamples register bits older (dataFrom a) = clearsAt register a
 
--- ---- which bits stand
--- the latest call has bit i; `older` says it of the events before
-abbrev pub latestAfter : Effect → ℕ → Bool → Bool
-latestAfter keeps i older = older
-latestAfter clears i older = older
-latestAfter forgets i older = false
-latestAfter (gives bits) i older = bits i
+-- the latest call has bit i; `before` says it of the older events
+abbrev pub latestAfter : Effect → ℕ → (before : Bool) → Bool
+latestAfter keeps i before = before
+latestAfter clears i before = before
+latestAfter forgets i before = false
+latestAfter (gives bits) i before = bits i
 
 -- one had bit i after the latest clear
-abbrev pub sinceAfter : Effect → ℕ → Bool → Bool
-sinceAfter keeps i older = older
-sinceAfter clears i older = false
-sinceAfter forgets i older = false
-sinceAfter (gives bits) i older = older || bits i
+abbrev pub sinceAfter : Effect → ℕ → (before : Bool) → Bool
+sinceAfter keeps i before = before
+sinceAfter clears i before = false
+sinceAfter forgets i before = false
+sinceAfter (gives bits) i before = before || bits i
 
 unfoldable pub latestHas : Source → List Event → ℕ → Bool
 latestHas s [] i = false
-latestHas s (e ∷ h) i = latestAfter (s e) i (latestHas s h i)
+latestHas s (e ∷ h) i = latestAfter (s h e) i (latestHas s h i)
 
 unfoldable pub someSince : Source → List Event → ℕ → Bool
 someSince s [] i = false
-someSince s (e ∷ h) i = sinceAfter (s e) i (someSince s h i)
+someSince s (e ∷ h) i = sinceAfter (s h e) i (someSince s h i)
 
 -- a bit stands when powered and the latest has it, or one had it since
-abbrev pub stands : Bool → Source → List Event → ℕ → Bool
-stands powered s h i = powered && (latestHas s h i || someSince s h i)
+abbrev pub stands : Model → Source → ℕ → Bool
+stands m s i = m .reference .powered && (latestHas s (m .history) i || someSince s (m .history) i)
 
--- ---- the link
+-- ---- faults, link, flags
+-- receive faults, mask 0039; transmit faults, mask 03D9
+abbrev pub rxFaults : Source
+rxFaults = overLines 0x9003 (λ older l i. bit i (l .receive) && bit i 0x0039)
+
+abbrev pub txFaults : Source
+txFaults = overLines 0x9004 (λ older l i. bit i (l .transmit) && bit i 0x03d9)
+
+-- the link is up when all three levels are, and down at power-on
 abbrev pub linkOf : Lines → Bool
 linkOf l = l .signal && l .block && l .lanes
 
--- the link after an event: the latest lines call's since power-on, where it is down
-abbrev pub linkAfter : Event → Bool → Bool
-linkAfter nothing older = older
-linkAfter poweredOn older = false
-linkAfter wasReset older = older
-linkAfter (gotLines l) older = linkOf l
-linkAfter (gotSample s) older = older
-linkAfter (dataFrom r) older = older
+abbrev pub link : Source
+link = overLines 0x9005 (λ older l i. linkOf l)
 
-unfoldable pub linkUp : List Event → Bool
-linkUp [] = false
-linkUp (e ∷ h) = linkAfter e (linkUp h)
+-- a lines call changes the link
+abbrev pub linkChange : Source
+linkChange = overLines 0x9005 (λ older l i. if latestHas link older 0 then not (linkOf l) else linkOf l)
 
--- the link alarm after an event, the link being up or not before it: a lines call after the latest power-on, reset or
--- data answer from 9005 changed the link
-abbrev pub changedAfter : Event → Bool → Bool → Bool
-changedAfter nothing up older = older
-changedAfter poweredOn up older = false
-changedAfter wasReset up older = false
-changedAfter (gotLines l) up older = older || cond up (not (linkOf l)) (linkOf l)
-changedAfter (gotSample s) up older = older
-changedAfter (dataFrom r) up older = cond (fromStatus 2 r) false older
+-- alarm flags, warning flags
+abbrev pub txAlarms : List ℕ → Source
+txAlarms t = overSamples 0xa070 (txFlags t alarm)
 
-unfoldable pub linkChanged : List Event → Bool
-linkChanged [] = false
-linkChanged (e ∷ h) = changedAfter e (linkUp h) (linkChanged h)
+abbrev pub rxAlarms : List ℕ → Source
+rxAlarms t = overSamples 0xa071 (rxFlags t alarm)
+
+abbrev pub txWarnings : List ℕ → Source
+txWarnings t = overSamples 0xa074 (txFlags t warning)
+
+abbrev pub rxWarnings : List ℕ → Source
+rxWarnings t = overSamples 0xa075 (rxFlags t warning)
 
 -- ---- the alarm registers and the line
--- bits that stand and a control share a bit
-abbrev pub shares : (ℕ → Bool) → ℕ → Bool
-shares p w = anyBit 16 (λ i. p i && bit i w)
-
-abbrev pub control : Reference → ℕ → ℕ
-control r k = getD (r .controls) k 0
+-- a control and the bits that stand share a bit
+abbrev pub shares : (control : ℕ) → (ℕ → Bool) → Bool
+shares w stand = anyBit 16 (λ i. bit i w && stand i)
 
 -- 9003: bit 1 is whether A071 and 9007 share a bit
-abbrev pub rxAlarmBit : List ℕ → Reference → List Event → ℕ → Bool
-rxAlarmBit t r h i =
-    stands (r .powered) rxFaults h i || eqb i 1 && shares (stands (r .powered) (rxAlarms t) h) (control r 4)
+abbrev pub rxAlarmBit : Model → ℕ → Bool
+rxAlarmBit m i =
+    stands m rxFaults i || eqb i 1 && shares (control (m .reference) 0x9007) (stands m (rxAlarms (m .thresholds)))
 
 -- 9004: bit 1 is whether A070 and 9006 share a bit
-abbrev pub txAlarmBit : List ℕ → Reference → List Event → ℕ → Bool
-txAlarmBit t r h i =
-    stands (r .powered) txFaults h i || eqb i 1 && shares (stands (r .powered) (txAlarms t) h) (control r 3)
+abbrev pub txAlarmBit : Model → ℕ → Bool
+txAlarmBit m i =
+    stands m txFaults i || eqb i 1 && shares (control (m .reference) 0x9006) (stands m (txAlarms (m .thresholds)))
 
--- 9005: bit 2: 9003 and 9000 share a bit; bit 1: 9004 and 9001; bit 0: the link alarm
-abbrev pub lasiBit : List ℕ → Reference → List Event → ℕ → Bool
-lasiBit t r h i =
-    cond (eqb i 2) (shares (rxAlarmBit t r h) (control r 0))
-    (cond (eqb i 1) (shares (txAlarmBit t r h) (control r 1)) (cond (eqb i 0) (linkChanged h) false))
+-- 9005: bit 2: 9003 and 9000 share a bit; bit 1: 9004 and 9001; bit 0: the link alarm, since the latest clear
+abbrev pub lasiBit : Model → ℕ → Bool
+lasiBit m i =
+    if eqb i 2 then shares (control (m .reference) 0x9000) (rxAlarmBit m) else
+    if eqb i 1 then shares (control (m .reference) 0x9001) (txAlarmBit m) else
+    if eqb i 0 then someSince linkChange (m .history) 0 else
+    false
 
 -- the alarm line: powered, and an enabled alarm stands: 9005 and 9002 share a bit
-unfoldable pub lineByHistory : List ℕ → Reference → List Event → Bool
-lineByHistory t r h = r .powered && shares (lasiBit t r h) (control r 2)
+unfoldable pub lineByHistory : Model → Bool
+lineByHistory m = m .reference .powered && shares (control (m .reference) 0x9002) (lasiBit m)

@@ -1,17 +1,14 @@
--- The copy begins as 256 zeros: the fact at each offset, and after a reset by frame.
+-- The copy begins as 256 zeros: there is a byte at each offset, and it is 0.
 -- Assumes nothing.
-use Prim.Native.Nat.{ℕ, zero, suc}
-use mathlib.Core.List.{List}
+use Prim.Native.Nat.{ℕ, zero, suc, _<_}
+use native.Mathlib.Omega.{arith}
 use mathlib.Core.Path.{_≡_, refl}
 use lib.ListN.{getD}
-use Rattle.action.specs.declared.Action.the-variants.{Reset}
-use Rattle.store.specs.Bytes.{zeros, writtenCopy}
+use Rattle.store.specs.Bytes.{zeros}
 
-pub zeros-at : (n k : ℕ) → getD (zeros n) k 0 ≡ 0
+-- whatever the default is, for where there is none
+pub zeros-at : (n k default : ℕ) → k < n → getD (zeros n) k default ≡ 0
 unfolding zeros
-zeros-at zero k = refl
-zeros-at (suc n) zero = refl
-zeros-at (suc n) (suc k) = zeros-at n k
-
-pub reset-at : (copy : List ℕ) (k : ℕ) → getD (writtenCopy copy Reset) k 0 ≡ 0
-reset-at copy k = zeros-at 256 k
+zeros-at zero k default h = absurd (omega arith)
+zeros-at (suc n) zero default h = refl
+zeros-at (suc n) (suc k) default h = zeros-at n k default (omega arith)

@@ -1,0 +1,2 @@
+-- The proof of the table.
+pub mod Table

@@ -1,0 +1,2 @@
+-- The table of proved cases.
+pub mod Table
