@@ -11,7 +11,6 @@ use lib.Dec.{eqb}
 use lib.ListN.{length, getD}
 use Rattle.words.specs.Words.{bit, ofBits, share}
 use Rattle.words.proofs.Laws.{bit-and, bit-or, bit-zero, bit-ofBits, ofBits-below, any-same}
-use Rattle.registers.specs.declared.Register.{Register}
 use Rattle.thresholds.specs.Thresholds.{thresholdsOf}
 use Rattle.dom.specs.declared.Sample.{Sample}
 use Rattle.flags.specs.Flags as flags
@@ -28,7 +27,8 @@ use Rattle.answers.specs.Answers.{Said}
 use Rattle.xenpak.specs.declared.Module.{Module}
 use Rattle.reads.specs.Reads.{lineOf}
 use Rattle.guarantees.specs.History.{Event, nothing, poweredOn, wasReset, ticked, gotLines, gotSample, dataFrom, alarm, warning, txFlags, rxFlags, Effect, keeps, clears, forgets, gives, Source, latestAfter, sinceAfter, latestHas, someSince, stands, rxFaults, txFaults, linkOf, link, linkChange, txAlarms, rxAlarms, txWarnings, rxWarnings, shares, rxAlarmBit, txAlarmBit, lasiBit, lineByHistory}
-use Rattle.guarantees.proofs.Located.{single, Located, apart, located, at0000, at8000, copy, customer, at9000, at9001, at9002, at9003, at9004, at9005, at9006, at9007, threshold, ata060, ata061, ata064, ata065, ata066, ata067, ata068, ata069, ata070, ata071, ata074, ata075, unlisted}
+use Rattle.guarantees.proofs.Located.{located}
+use Rattle.guarantees.proofs.Reading.{readAlarms, reads-at}
 use Rattle.guarantees.proofs.Transition.{Reaction, Transition, unchanged, powering, cutting, resetting, ticking, lining, sampling, addressing, commanding, writing, controlling, reading, modelOf}
 
 other : (i k : ℕ) → k < i → eqb i k ≡ false
@@ -201,53 +201,6 @@ module _ (t : List ℕ) (s : Sample) where
       (given _ _ (byte-word (txBits (crossing flags.warning)) refl) tx-warning) (given _ _ (byte-word (rxBits (crossing flags.warning)) refl) rx-warning) refl refl
 
 -- a read clears what it is from
-readAlarms : ℕ → Alarms → Alarms
-readAlarms a x =
-    record {
-      controls = x .controls;
-      rxfaults = cond (eqb a 0x9003) (cleared (x .rxfaults)) (x .rxfaults);
-      txfaults = cond (eqb a 0x9004) (cleared (x .txfaults)) (x .txfaults);
-      txalarm = cond (eqb a 0xa070) (cleared (x .txalarm)) (x .txalarm);
-      rxalarm = cond (eqb a 0xa071) (cleared (x .rxalarm)) (x .rxalarm);
-      txwarning = cond (eqb a 0xa074) (cleared (x .txwarning)) (x .txwarning);
-      rxwarning = cond (eqb a 0xa075) (cleared (x .rxwarning)) (x .rxwarning);
-      link = x .link;
-      changed = cond (eqb a 0x9005) false (x .changed);
-    }
-
-keeps-all : (a : ℕ) → single a ≡ false → (x : Alarms) → readAlarms a x ≡ x
-unfolding readAlarms
-keeps-all a s x = rw (apart a s 0x9003 refl, apart a s 0x9004 refl, apart a s 0x9005 refl, apart a s 0xa070 refl, apart a s 0xa071 refl, apart a s 0xa074 refl, apart a s 0xa075 refl)
-
-read-is : {a : ℕ} {r : Register} → Located a r → (x : Alarms) → readAlarms a x ≡ alarms.afterRead x r
-unfolding readAlarms
-read-is at0000 x = refl
-read-is at8000 x = refl
-read-is {a} (copy s c u t) x = keeps-all a s x
-read-is {a} (customer s c u t) x = keeps-all a s x
-read-is at9000 x = refl
-read-is at9001 x = refl
-read-is at9002 x = refl
-read-is at9003 x = refl
-read-is at9004 x = refl
-read-is at9005 x = refl
-read-is at9006 x = refl
-read-is at9007 x = refl
-read-is {a} (threshold s c u t) x = keeps-all a s x
-read-is ata060 x = refl
-read-is ata061 x = refl
-read-is ata064 x = refl
-read-is ata065 x = refl
-read-is ata066 x = refl
-read-is ata067 x = refl
-read-is ata068 x = refl
-read-is ata069 x = refl
-read-is ata070 x = refl
-read-is ata071 x = refl
-read-is ata074 x = refl
-read-is ata075 x = refl
-read-is {a} (unlisted s c u t) x = keeps-all a s x
-
 cleared-at : (b : Bool) (l : Latch) → Follows l (cond b clears keeps) (cond b (cleared l) l)
 cleared-at true l = cleared-by
 cleared-at false l = kept
@@ -284,7 +237,7 @@ to-alarms {m} (writing offset v) h up = nothing-all (m .thresholds) h (m .alarms
 to-alarms {m} (controlling i k mask law v) h up = nothing-all (m .thresholds) h (m .alarms) _
 to-alarms {m} (reading increment) h up =
     let a = m .bus .address in
-    subst (AlarmsFollow (m .thresholds) h (dataFrom a) (m .alarms)) (read-is (located a) (m .alarms)) (read-all (m .thresholds) h (m .alarms) a)
+    subst (AlarmsFollow (m .thresholds) h (dataFrom a) (m .alarms)) (sym (reads-at (located a) .alarms (m .alarms))) (read-all (m .thresholds) h (m .alarms) a)
 
 pub alarms-sound : {m n : Module} {x : Said} {y : Reaction} → Transition m n x y → (h : List Event) → AlarmsSound (m .thresholds) h (m .alarms)
     → AlarmsSound (m .thresholds) (y .event ∷ h) (n .alarms)

@@ -28,8 +28,9 @@ use Rattle.guarantees.specs.History.{Event, stepEvent, Model, runModel, 
 use Rattle.guarantees.specs.Model.{Held, Memory, remembered, lowByte, upTo, wordOf, readAt, refused, frameSaid, callSaid, stepSaid, answersByModel, seenByModel, alongModel}
 use Rattle.guarantees.specs.Guarantees.{answers, seen, along}
 use Rattle.guarantees.proofs.Located.{Located, apart, located, at0000, at8000, copy, customer, at9000, at9001, at9002, at9003, at9004, at9005, at9006, at9007, threshold, ata060, ata061, ata064, ata065, ata066, ata067, ata068, ata069, ata070, ata071, ata074, ata075, unlisted}
+use Rattle.guarantees.proofs.Reading.{bits-are, Low, low0, low1, low2, low3, alike, HeldSound, none, some}
 use Rattle.guarantees.proofs.Transition.{referenceOf, JobSound, transition, valueRead, step-said, Fixed, step-fixed, modelOf, step-model}
-use Rattle.guarantees.proofs.Memory.{FirstSound, running, over, bits-are, Low, low0, low1, low2, low3, alike, HeldSound, none, some, Remembers, memory-sound}
+use Rattle.guarantees.proofs.Memory.{FirstSound, running, over, Remembers, memory-sound}
 use Rattle.guarantees.proofs.Store.{step-sound}
 use Rattle.guarantees.proofs.Alarms.{LatchSound, AlarmsSound, alarms-sound, rx-bit, tx-bit, lasi-bit, flag-bit, line-is}
 

@@ -1,5 +1,6 @@
 -- The proofs of what is guaranteed.
 pub mod Located
+pub mod Reading
 pub mod StatusWord
 pub mod Transition
 pub mod Memory

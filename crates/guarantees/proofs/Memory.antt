@@ -1,16 +1,13 @@
 -- What a module remembers since power-on or reset is what its model does: the first load, the counter, the last sample, the
 -- byte held.
 -- Assumes nothing.
-use Prim.Native.Nat.{ℕ, _+_, _-_, _%_, _<_, min}
+use Prim.Native.Nat.{ℕ, _+_, _-_, _<_, min}
 use native.Mathlib.Omega.{arith}
 use borrow.Author.Tests.{ltb-true, ltb-false, eqb-true, ne-eqb, not-false}
-use mathlib.Core.Bool.{Bool, true, false, cond, not, _&&_}
+use mathlib.Core.Bool.{Bool, true, false, cond}
 use mathlib.Core.Path.{_≡_, refl, sym, ap, _∙_, subst}
 use lib.Dec.{eqb, ltb}
-use lib.IntN.{ℤ, pos, negsuc}
 use Rattle.registers.specs.Map.{registerAt}
-use Rattle.registers.specs.declared.Register.{Register}
-use Rattle.registers.specs.declared.Register.the-variants as register
 use Rattle.nvr.specs.Command.{commandOf}
 use Rattle.nvr.specs.declared.command.Command.{Command}
 use Rattle.nvr.specs.declared.command.Command.the-variants as command
@@ -25,8 +22,9 @@ use Rattle.monitor.specs.Monitor.{afterRead}
 use Rattle.monitor.specs.declared.Monitor.{Monitor}
 use Rattle.answers.specs.Answers.{Said}
 use Rattle.xenpak.specs.declared.Module.{Module}
-use Rattle.guarantees.specs.Model.{highAt, lowAt, bitsOf, codeAt, Held, nothingHeld, heldAt, Memory, noMemory, heldAfterLow, remember}
-use Rattle.guarantees.proofs.Located.{single, Located, apart, located, at0000, at8000, copy, customer, at9000, at9001, at9002, at9003, at9004, at9005, at9006, at9007, threshold, ata060, ata061, ata064, ata065, ata066, ata067, ata068, ata069, ata070, ata071, ata074, ata075, unlisted}
+use Rattle.guarantees.specs.Model.{Memory, noMemory, remember}
+use Rattle.guarantees.proofs.Located.{located}
+use Rattle.guarantees.proofs.Reading.{idled, HeldSound, none, Holds, heldBy, reads-at}
 use Rattle.guarantees.proofs.Transition.{Reaction, Transition, unchanged, powering, cutting, resetting, ticking, lining, sampling, addressing, commanding, writing, controlling, reading}
 
 -- ---- the first load: its ticks left are its bytes left
@@ -34,18 +32,13 @@ pub data FirstSound (left : ℕ) (j : Job) : Type 0 where
   running : j .kind ≡ 3 → j .due + left ≡ 256 → j .last ≡ 255 → 0 < left → FirstSound left j
   over : eqb (j .kind) 3 ≡ false → left ≡ 0 → FirstSound left j
 
-read-first : {left : ℕ} (j : Job) (r : Register) → FirstSound left j → FirstSound left (job.afterRead j r)
-read-first j register.PmaControl f = f
-read-first j register.NvrControl (running k d l p) = running k d l p
-read-first j register.NvrControl (over k z) = over k z
-read-first j (register.Copy offset) f = f
-read-first j (register.Customer offset) f = f
-read-first j (register.Control i) f = f
-read-first j (register.Status i) f = f
-read-first j (register.Threshold k) f = f
-read-first j (register.Sample quantity low) f = f
-read-first j (register.Flags i) f = f
-read-first j register.Unlisted f = f
+read-first : {left : ℕ} (j : Job) (a : ℕ) → FirstSound left j → FirstSound left (job.afterRead j (registerAt a))
+read-first {left} j a f = subst (FirstSound left) (sym (reads-at (located a) .job j)) (go (eqb a 0x8000) f)
+  where
+    go : (b : Bool) → FirstSound left j → FirstSound left (cond b (idled j) j)
+    go true (running k d l p) = running k d l p
+    go true (over k z) = over k z
+    go false f = f
 
 command-first : (c : Command) → eqb (job.commandJob c .kind) 3 ≡ false
 command-first command.LoadAll = refl
@@ -88,115 +81,6 @@ one-more n = go (ltb (min n 65535) 0xffff) refl
     go true e = let h = ltb-true (min n 65535) 0xffff e in omega arith
     go false e = let h = ltb-false (min n 65535) 0xffff e in omega arith
 
--- ---- the last sample
-read-sample : (m : Monitor) (r : Register) → afterRead m r .sample ≡ m .sample
-read-sample m register.PmaControl = refl
-read-sample m register.NvrControl = refl
-read-sample m (register.Copy offset) = refl
-read-sample m (register.Customer offset) = refl
-read-sample m (register.Control i) = refl
-read-sample m (register.Status i) = refl
-read-sample m (register.Threshold k) = refl
-read-sample m (register.Sample quantity true) = refl
-read-sample m (register.Sample quantity false) = refl
-read-sample m (register.Flags i) = refl
-read-sample m register.Unlisted = refl
-
-pub bits-are : (t : ℤ) → monitor.bitsOf t ≡ bitsOf t
-bits-are (pos n) = refl
-bits-are (negsuc n) = omega arith
-
--- ---- the byte held
--- the number of a quantity, and the address of its low byte
-pub data Low : ℕ → ℕ → Type 0 where
-  low0 : Low 0 0xa061
-  low1 : Low 1 0xa065
-  low2 : Low 2 0xa067
-  low3 : Low 3 0xa069
-
-pub alike : {q k a b : ℕ} → Low q a → Low k b → eqb q k ≡ eqb b a
-alike low0 low0 = refl
-alike low0 low1 = refl
-alike low0 low2 = refl
-alike low0 low3 = refl
-alike low1 low0 = refl
-alike low1 low1 = refl
-alike low1 low2 = refl
-alike low1 low3 = refl
-alike low2 low0 = refl
-alike low2 low1 = refl
-alike low2 low2 = refl
-alike low2 low3 = refl
-alike low3 low0 = refl
-alike low3 low1 = refl
-alike low3 low2 = refl
-alike low3 low3 = refl
-
-is-low : {q b : ℕ} → Low q b → lowAt b ≡ true
-is-low low0 = refl
-is-low low1 = refl
-is-low low2 = refl
-is-low low3 = refl
-
-pub data HeldSound : Bool → ℕ → ℕ → Held → Type 0 where
-  none : {q byte : ℕ} → HeldSound false q byte nothingHeld
-  some : {q a byte : ℕ} → Low q a → HeldSound true q byte (heldAt a byte)
-
--- an address of no sample
-no-high : (a : ℕ) → single a ≡ false → highAt a ≡ false
-no-high a s = rw (apart a s 0xa060 refl, apart a s 0xa064 refl, apart a s 0xa066 refl, apart a s 0xa068 refl)
-
-no-low : (a : ℕ) → single a ≡ false → lowAt a ≡ false
-no-low a s = rw (apart a s 0xa061 refl, apart a s 0xa065 refl, apart a s 0xa067 refl, apart a s 0xa069 refl)
-
--- what is held after a read at an address
-abbrev heldBy : ℕ → Sample → Held → Held
-heldBy a s x = cond (highAt a) (heldAt (a + 1) (codeAt s a % 256)) (heldAfterLow x a)
-
-stays : (a : ℕ) → highAt a ≡ false → lowAt a ≡ false → (s : Sample) {b : Bool} {q byte : ℕ} {x : Held} → HeldSound b q byte x → HeldSound b q byte (heldBy a s x)
-stays a f g s none = rw f none
-stays a f g s (some {a = c} k) = rw (f, ne-eqb a c (λ e. let z : true ≡ false = sym (is-low k) ∙ ap lowAt (sym e) ∙ g in let y : _≡_ {A = ℕ} 0 1 = cc in omega arith)) (some k)
-
-forgets : {k c q byte : ℕ} {b : Bool} {x : Held} → Low k c → HeldSound b q byte x → HeldSound (b && not (eqb q k)) q byte (heldAfterLow x c)
-forgets n none = none
-forgets {k} {c} {q} {byte} n (some {a = a} i) = subst (λ (t : Bool). HeldSound (not (eqb q k)) q byte (cond t nothingHeld (heldAt a byte))) (alike i n) (go (eqb q k))
-  where
-    go : (t : Bool) → HeldSound (not t) q byte (cond t nothingHeld (heldAt a byte))
-    go true = none
-    go false = some i
-
-abbrev Holds : Monitor → Held → Type 0
-Holds m x = HeldSound (m .held) (m .quantity) (m .byte) x
-
-read-held : {a : ℕ} {r : Register} → Located a r → (s : Sample) {b : Bool} {q byte : ℕ} {x : Held} → HeldSound b q byte x
-    → Holds (afterRead (monitor.monitor s b q byte) r) (heldBy a s x)
-read-held at0000 s ok = stays 0x0000 refl refl s ok
-read-held at8000 s ok = stays 0x8000 refl refl s ok
-read-held {a} (copy f c u t) s ok = stays a (no-high a f) (no-low a f) s ok
-read-held {a} (customer f c u t) s ok = stays a (no-high a f) (no-low a f) s ok
-read-held at9000 s ok = stays 0x9000 refl refl s ok
-read-held at9001 s ok = stays 0x9001 refl refl s ok
-read-held at9002 s ok = stays 0x9002 refl refl s ok
-read-held at9003 s ok = stays 0x9003 refl refl s ok
-read-held at9004 s ok = stays 0x9004 refl refl s ok
-read-held at9005 s ok = stays 0x9005 refl refl s ok
-read-held at9006 s ok = stays 0x9006 refl refl s ok
-read-held at9007 s ok = stays 0x9007 refl refl s ok
-read-held {a} (threshold f c u t) s ok = stays a (no-high a f) (no-low a f) s ok
-read-held ata060 s ok = rw (← bits-are (s .temperature)) (some low0)
-read-held ata061 s ok = forgets low0 ok
-read-held ata064 s ok = some low1
-read-held ata065 s ok = forgets low1 ok
-read-held ata066 s ok = some low2
-read-held ata067 s ok = forgets low2 ok
-read-held ata068 s ok = some low3
-read-held ata069 s ok = forgets low3 ok
-read-held ata070 s ok = stays 0xa070 refl refl s ok
-read-held ata071 s ok = stays 0xa071 refl refl s ok
-read-held ata074 s ok = stays 0xa074 refl refl s ok
-read-held ata075 s ok = stays 0xa075 refl refl s ok
-read-held {a} (unlisted f c u t) s ok = stays a (no-high a f) (no-low a f) s ok
-
 -- ---- all of it
 pub record MemorySound (k : Memory) (j : Job) (counter : ℕ) (monitor : Monitor) : Type 0 where
   pub first : FirstSound (k .loading) j
@@ -226,12 +110,12 @@ memory-sound {m} (commanding v free) k ok = record { first = start-first (m .job
 memory-sound (writing offset v) k ok = ok
 memory-sound (controlling i j mask law v) k ok = ok
 memory-sound {m} (reading increment) k ok =
-    let r = registerAt (m .bus .address) in
+    let a = m .bus .address in
     record {
-      first = read-first (m .job) r (ok .first);
+      first = read-first (m .job) a (ok .first);
       count = ap oneMore (ok .count) ∙ one-more (k .answered);
-      sample = read-sample (m .monitor) r ∙ ok .sample;
+      sample = reads-at (located a) .sample (m .monitor) ∙ ok .sample;
       held =
-          subst (λ (s : Sample). Holds (afterRead (m .monitor) r) (heldBy (m .bus .address) s (k .held))) (ok .sample)
-          (read-held (located (m .bus .address)) (m .monitor .sample) (ok .held));
+          subst (λ (s : Sample). Holds (monitor.afterRead (m .monitor) (registerAt a)) (heldBy a s (k .held))) (ok .sample)
+          (reads-at (located a) .held (m .monitor) (k .held) (ok .held));
     }

@@ -12,8 +12,6 @@ use lib.Seq.{getD-set-other, take-set-le}
 use borrow.Author.Tests.{leb-true, ltb-true, le-leb}
 use Rattle.words.specs.Words.{bit}
 use Rattle.registers.specs.Map.{registerAt}
-use Rattle.registers.specs.declared.Register.{Register}
-use Rattle.registers.specs.declared.Register.the-variants as register
 use Rattle.nvr.specs.Command.{keptBits, commandOf}
 use Rattle.nvr.specs.declared.command.Command.{Command}
 use Rattle.nvr.specs.declared.command.Command.the-variants as command
@@ -28,6 +26,8 @@ use Rattle.calls.specs.declared.Call.{Call}
 use Rattle.xenpak.specs.declared.Module.{Module}
 use Rattle.guarantees.specs.Reference.{Job, none, load, burn, Reference, withStore, withCopy, withAddress, withWord, customerOffset, idleOnceShown, tornStore, cutRef, advanced, tickRef, commandJob, commanded, readRef, incremented, stepRef}
 use Rattle.guarantees.specs.BurnLog.{Entry, tickLog, cutLog, stepLog, burnLog, applied}
+use Rattle.guarantees.proofs.Located.{located}
+use Rattle.guarantees.proofs.Reading.{idled, reads-at}
 use Rattle.guarantees.proofs.StatusWord.{kept-masked, idle, done, failed, Ended}
 use Rattle.guarantees.proofs.Transition.{jobRef, referenceOf, BurnSound, JobSound, Reaction, Transition, unchanged, powering, cutting, resetting, ticking, lining, sampling, addressing, commanding, writing, controlling, reading, transition, new-job, step-ref, Fixed, step-fixed}
 
@@ -93,17 +93,12 @@ tick-sound j w h = go (eqb (j .kind) 0) (eqb (j .kind) 2) (ltb (j .due) (j .last
     go false false true p q r = rw (p, q, r) (record { kept = h .kept; ended = h .ended; burns = rw (p, q) tt })
     go false false false p q r = rw (p, q, r) (record { kept = h .kept; ended = done; burns = tt })
 
-read-sound : (j : ModuleJob) (w : ℕ) → JobSound j w → (r : Register) → JobSound (job.afterRead j r) w
-read-sound j w h register.PmaControl = h
-read-sound j w h register.NvrControl = record { kept = h .kept; ended = idle; burns = h .burns }
-read-sound j w h (register.Copy offset) = h
-read-sound j w h (register.Customer offset) = h
-read-sound j w h (register.Control i) = h
-read-sound j w h (register.Status i) = h
-read-sound j w h (register.Threshold k) = h
-read-sound j w h (register.Sample quantity low) = h
-read-sound j w h (register.Flags i) = h
-read-sound j w h register.Unlisted = h
+read-sound : (j : ModuleJob) (w : ℕ) → JobSound j w → (a : ℕ) → JobSound (job.afterRead j (registerAt a)) w
+read-sound j w h a = subst (λ (k : ModuleJob). JobSound k w) (sym (reads-at (located a) .job j)) (go (eqb a 0x8000))
+  where
+    go : (b : Bool) → JobSound (cond b (idled j) j) w
+    go true = record { kept = h .kept; ended = idle; burns = h .burns }
+    go false = h
 
 pub no-job-sound : JobSound job.noJob 0
 no-job-sound = record { kept = refl; ended = idle; burns = tt }
@@ -123,7 +118,7 @@ to-sound (addressing a) h = h
 to-sound (commanding v free) h = command-sound v
 to-sound (writing offset v) h = h
 to-sound (controlling i k mask law v) h = h
-to-sound {m} (reading increment) h = read-sound (m .job) (m .command) h (registerAt (m .bus .address))
+to-sound {m} (reading increment) h = read-sound (m .job) (m .command) h (m .bus .address)
 
 pub step-sound : (m : Module) → JobSound (m .job) (m .command) → (c : Call) → JobSound (step m c .next .job) (step m c .next .command)
 step-sound m h c = to-sound (transition m h c) h

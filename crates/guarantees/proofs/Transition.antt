@@ -46,11 +46,12 @@ use Rattle.answers.specs.Answers.{Said, saidPlain, saidFrame, saidTick, powerOn
 use Rattle.calls.specs.declared.Call.{Call}
 use Rattle.calls.specs.declared.Call.the-variants as call
 use Rattle.xenpak.specs.declared.Module.{Module}
-use Rattle.guarantees.specs.Reference.{Job, none, load, burn, Reference, reference, withCopy, withAddress, withControls, withWord, zeroCopy, zeroControls, inRange, Frame, silent, sets, writes, reads, frameOf, customerAt, customerOffset, maskAt, withStatus, busy, started, cutRef, tickRef, commandJob, commandStatus, commanded, writable, written, readRef, incremented, frameRef, callRef, stepRef}
+use Rattle.guarantees.specs.Reference.{Job, none, load, burn, Reference, reference, withCopy, withAddress, withControls, withWord, zeroCopy, zeroControls, inRange, Frame, silent, sets, writes, reads, frameOf, customerAt, customerOffset, maskAt, withStatus, busy, idleOnceShown, started, cutRef, tickRef, commandJob, commandStatus, commanded, writable, written, readRef, incremented, frameRef, callRef, stepRef}
 use Rattle.guarantees.specs.BurnLog.{Entry, tickLog, cutLog, callLog, stepLog}
 use Rattle.guarantees.specs.History.{Event, nothing, poweredOn, wasReset, ticked, gotLines, gotSample, dataFrom, frameEvent, callEvent, stepEvent, Model, model, stepModel}
 use Rattle.guarantees.specs.Model.{refused, says, frameSaid, tickSaid, callSaid, stepSaid}
 use Rattle.guarantees.proofs.Located.{single, Located, apart, located, at0000, at8000, copy, customer, at9000, at9001, at9002, at9003, at9004, at9005, at9006, at9007, threshold, ata060, ata061, ata064, ata065, ata066, ata067, ata068, ata069, ata070, ata071, ata074, ata075, unlisted}
+use Rattle.guarantees.proofs.Reading.{idled, readAlarms, reads-at}
 use Rattle.guarantees.proofs.StatusWord.{Kept, status-put, Ended, busy-word, shown-word}
 
 -- ---- frames: the code's request is the reference model's frame
@@ -396,42 +397,25 @@ new-word : (v : ℕ) → wordOf (job.commandJob (commandOf v)) (keptBits v) ≡ 
 new-word v = command-word (commandOf v) (keptBits v) ∙ ap (λ (j : Job). bitOr (keptBits v) (4 * commandStatus j)) (command-ref v)
 
 module _ (m : Module) where
-  read-ref : JobSound (m .job) (m .command) → {a : ℕ} {r : Register} → Located a r → referenceOf (moduleAfter m (action.Read r false)) ≡ readRef (referenceOf m) a
-  unfolding readRef
-  read-ref h at0000 = refl
-  read-ref h at8000 =
-      ap (λ (w : ℕ). withWord w (jobRef (m .job)) (referenceOf m))
-      (sym (shown-word (m .command) (h .kept) (eqb (m .job .kind) 0) (h .ended)))
-  read-ref h {a} (copy s c u t) = rw (apart a s 0x8000 refl)
-  read-ref h {a} (customer s c u t) = rw (apart a s 0x8000 refl)
-  read-ref h at9000 = refl
-  read-ref h at9001 = refl
-  read-ref h at9002 = refl
-  read-ref h at9003 = refl
-  read-ref h at9004 = refl
-  read-ref h at9005 = refl
-  read-ref h at9006 = refl
-  read-ref h at9007 = refl
-  read-ref h {a} (threshold s c u t) = rw (apart a s 0x8000 refl)
-  read-ref h ata060 = refl
-  read-ref h ata061 = refl
-  read-ref h ata064 = refl
-  read-ref h ata065 = refl
-  read-ref h ata066 = refl
-  read-ref h ata067 = refl
-  read-ref h ata068 = refl
-  read-ref h ata069 = refl
-  read-ref h ata070 = refl
-  read-ref h ata071 = refl
-  read-ref h ata074 = refl
-  read-ref h ata075 = refl
-  read-ref h {a} (unlisted s c u t) = rw (apart a s 0x8000 refl)
+  read-ref : JobSound (m .job) (m .command) → (a : ℕ) → referenceOf (moduleAfter m (action.Read (registerAt a) false)) ≡ readRef (referenceOf m) a
+  unfolding readRef readAlarms
+  read-ref h a =
+      (λ i. after (reads-at (located a) .job (m .job) i) (reads-at (located a) .alarms (m .alarms) i .controls)) ∙ go (eqb a 0x8000)
+    where
+      after : ModuleJob → Controls → Reference
+      after j c = reference (m .powered) (m .store) (m .copy) (m .bus .address) (controlsRef c) (wordOf j (m .command)) (jobRef j)
+
+      go : (b : Bool)
+          → after (cond b (idled (m .job)) (m .job)) (m .alarms .controls)
+          ≡ cond b (withWord (idleOnceShown (wordOf (m .job) (m .command))) (jobRef (m .job)) (referenceOf m)) (referenceOf m)
+      go true = ap (λ (w : ℕ). withWord w (jobRef (m .job)) (referenceOf m)) (sym (shown-word (m .command) (h .kept) (eqb (m .job .kind) 0) (h .ended)))
+      go false = refl
 
   reads-ref : JobSound (m .job) (m .command) → (a : ℕ) (increment : Bool)
       → referenceOf (moduleAfter m (action.Read (registerAt a) increment))
       ≡ cond increment (withAddress (incremented (m .bus .address)) (readRef (referenceOf m) a)) (readRef (referenceOf m) a)
-  reads-ref h a true = ap (withAddress (incremented (m .bus .address))) (read-ref h (located a))
-  reads-ref h a false = read-ref h (located a)
+  reads-ref h a true = ap (withAddress (incremented (m .bus .address))) (read-ref h a)
+  reads-ref h a false = read-ref h a
 
 to-ref : {m n : Module} {x : Said} {y : Reaction} → JobSound (m .job) (m .command) → Transition m n x y → referenceOf n ≡ y .reference
 unfolding commanded
