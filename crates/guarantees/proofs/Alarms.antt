@@ -9,7 +9,7 @@ use mathlib.Core.Path.{_≡_, refl, sym, ap, ap₂, _∙_, subst}
 use lib.Bits.{bitAnd, bitOr, and-le-r, or-lt}
 use lib.Dec.{eqb}
 use lib.ListN.{length, getD}
-use Rattle.words.specs.Words.{bit, ofBits, share}
+use Rattle.words.specs.Words.{bit, anyBit, ofBits, share}
 use Rattle.words.proofs.Laws.{bit-and, bit-or, bit-zero, bit-ofBits, ofBits-below, any-same}
 use Rattle.thresholds.specs.Thresholds.{thresholdsOf}
 use Rattle.dom.specs.declared.Sample.{Sample}
@@ -26,7 +26,7 @@ use Rattle.lasi.specs.Lasi.{rxAlarm, txAlarm, lasiStatus}
 use Rattle.answers.specs.Answers.{Said}
 use Rattle.xenpak.specs.declared.Module.{Module}
 use Rattle.reads.specs.Reads.{lineOf}
-use Rattle.guarantees.specs.History.{Event, nothing, poweredOn, wasReset, ticked, gotLines, gotSample, dataFrom, alarm, warning, txFlags, rxFlags, Effect, keeps, clears, forgets, gives, Source, latestAfter, sinceAfter, latestHas, someSince, stands, rxFaults, txFaults, linkOf, link, linkChange, txAlarms, rxAlarms, txWarnings, rxWarnings, shares, rxAlarmBit, txAlarmBit, lasiBit, lineByHistory}
+use Rattle.guarantees.specs.History.{Event, nothing, poweredOn, wasReset, ticked, gotLines, gotSample, dataFrom, highAlarm, lowAlarm, highWarning, lowWarning, txFlags, rxFlags, Effect, keeps, clears, forgets, gives, Source, latestAfter, sinceAfter, latestHas, someSince, stands, rxFaults, txFaults, linkOf, link, linkChange, txAlarms, rxAlarms, txWarnings, rxWarnings, sharesBelow, shares, rxAlarmBit, txAlarmBit, lasiBit, lineByHistory}
 use Rattle.guarantees.proofs.Located.{located}
 use Rattle.guarantees.proofs.Reading.{readAlarms, reads-at}
 use Rattle.guarantees.proofs.Transition.{Reaction, Transition, unchanged, powering, cutting, resetting, ticking, lining, sampling, addressing, commanding, writing, controlling, reading, modelOf}
@@ -149,6 +149,7 @@ module _ (t : List ℕ) (h : List Event) (a : Alarms) where
   reset-all = all cleared-by cleared-by emptied emptied emptied emptied refl refl
 
   lines-all : (l : Lines) → a .link ≡ latestHas link h 0 → AlarmsFollow t h (gotLines l) a (alarms.afterLines a l)
+  unfolding bit
   lines-all l up =
       all (given _ (bitAnd (l .receive) 0x0039) (omega (arith, and-le-r (l .receive) 0x0039)) (λ i. bit-and i (l .receive) 0x0039))
       (given _ (bitAnd (l .transmit) 0x03d9) (omega (arith, and-le-r (l .transmit) 0x03d9)) (λ i. bit-and i (l .transmit) 0x03d9)) kept kept kept kept
@@ -176,23 +177,23 @@ module _ (t : List ℕ) (s : Sample) where
   abbrev crossing : (Side → ℕ) → Side → ℕ → Bool
   crossing columns = crossed (thresholdsOf t) (codesOf s) columns
 
-  tx-none : (level i : ℕ) → 8 ≤ i → txFlags t level s i ≡ false
-  tx-none level i h = rw (other i 7 (omega arith), other i 6 (omega arith), other i 3 (omega arith), other i 2 (omega arith), other i 1 (omega arith), other i 0 (omega arith))
+  tx-none : (high low i : ℕ) → 8 ≤ i → txFlags t high low s i ≡ false
+  tx-none high low i h = rw (other i 7 (omega arith), other i 6 (omega arith), other i 3 (omega arith), other i 2 (omega arith), other i 1 (omega arith), other i 0 (omega arith))
 
-  rx-none : (level i : ℕ) → 8 ≤ i → rxFlags t level s i ≡ false
-  rx-none level i h = rw (other i 7 (omega arith), other i 6 (omega arith))
+  rx-none : (high low i : ℕ) → 8 ≤ i → rxFlags t high low s i ≡ false
+  rx-none high low i h = rw (other i 7 (omega arith), other i 6 (omega arith))
 
-  tx-alarm : (i : ℕ) → bit i (ofBits (txBits (crossing flags.alarm))) ≡ txFlags t alarm s i
-  tx-alarm i = bit-ofBits (txBits (crossing flags.alarm)) i ∙ placed (txFlags t alarm s) (tx-none alarm) i
+  tx-alarm : (i : ℕ) → bit i (ofBits (txBits (crossing flags.alarm))) ≡ txFlags t highAlarm lowAlarm s i
+  tx-alarm i = bit-ofBits (txBits (crossing flags.alarm)) i ∙ placed (txFlags t highAlarm lowAlarm s) (tx-none highAlarm lowAlarm) i
 
-  rx-alarm : (i : ℕ) → bit i (ofBits (rxBits (crossing flags.alarm))) ≡ rxFlags t alarm s i
-  rx-alarm i = bit-ofBits (rxBits (crossing flags.alarm)) i ∙ placed (rxFlags t alarm s) (rx-none alarm) i
+  rx-alarm : (i : ℕ) → bit i (ofBits (rxBits (crossing flags.alarm))) ≡ rxFlags t highAlarm lowAlarm s i
+  rx-alarm i = bit-ofBits (rxBits (crossing flags.alarm)) i ∙ placed (rxFlags t highAlarm lowAlarm s) (rx-none highAlarm lowAlarm) i
 
-  tx-warning : (i : ℕ) → bit i (ofBits (txBits (crossing flags.warning))) ≡ txFlags t warning s i
-  tx-warning i = bit-ofBits (txBits (crossing flags.warning)) i ∙ placed (txFlags t warning s) (tx-none warning) i
+  tx-warning : (i : ℕ) → bit i (ofBits (txBits (crossing flags.warning))) ≡ txFlags t highWarning lowWarning s i
+  tx-warning i = bit-ofBits (txBits (crossing flags.warning)) i ∙ placed (txFlags t highWarning lowWarning s) (tx-none highWarning lowWarning) i
 
-  rx-warning : (i : ℕ) → bit i (ofBits (rxBits (crossing flags.warning))) ≡ rxFlags t warning s i
-  rx-warning i = bit-ofBits (rxBits (crossing flags.warning)) i ∙ placed (rxFlags t warning s) (rx-none warning) i
+  rx-warning : (i : ℕ) → bit i (ofBits (rxBits (crossing flags.warning))) ≡ rxFlags t highWarning lowWarning s i
+  rx-warning i = bit-ofBits (rxBits (crossing flags.warning)) i ∙ placed (rxFlags t highWarning lowWarning s) (rx-none highWarning lowWarning) i
 
   sample-all : (h : List Event) (a : Alarms) → AlarmsFollow t h (gotSample s) a (alarms.afterSample a (flagsOf (thresholdsOf t) s))
   unfolding flagsOf
@@ -247,9 +248,25 @@ alarms-sound t h ok = follows-on (to-alarms t h (ok .up)) ok
 stands-bit : {s : Source} {h : List Event} {l : Latch} → LatchSound s h l → (i : ℕ) → bit i (latched l) ≡ (latestHas s h i || someSince s h i)
 stands-bit {l = l} ok i = bit-or i (l .live) (l .since) ∙ ap₂ _||_ (ok .live i) (ok .since i)
 
+or-left : (a b c : Bool) → (a || (b || c)) ≡ (b || (a || c))
+or-left true true c = refl
+or-left true false c = refl
+or-left false b c = refl
+
+-- one of the bits, from the lowest up, and from the highest down
+any-last : (n : ℕ) (p : ℕ → Bool) → anyBit (suc n) p ≡ (p n || anyBit n p)
+unfolding anyBit
+any-last zero p = refl
+any-last (suc n) p = ap (λ (x : Bool). p 0 || x) (any-last n (λ i. p (suc i))) ∙ or-left (p 0) (p (suc n)) (anyBit n (λ i. p (suc i)))
+
+any-below : (n w : ℕ) (p : ℕ → Bool) → anyBit n (λ i. bit i w && p i) ≡ sharesBelow n w p
+unfolding anyBit bit
+any-below zero w p = refl
+any-below (suc n) w p = any-last n (λ i. bit i w && p i) ∙ ap (λ (x : Bool). bit n w && p n || x) (any-below n w p)
+
 share-bits : (a w : ℕ) {p : ℕ → Bool} → ((i : ℕ) → bit i a ≡ p i) → share a w ≡ shares w p
 unfolding share
-share-bits a w k = any-same 16 (λ i. and-comm (bit i a) (bit i w) ∙ ap (λ (x : Bool). bit i w && x) (k i))
+share-bits a w {p} k = any-same 16 (λ i. and-comm (bit i a) (bit i w) ∙ ap (λ (x : Bool). bit i w && x) (k i)) ∙ any-below 16 w p
 
 -- bit 1 alone
 bit-one : (x : Bool) (i : ℕ) → getD (false ∷ x ∷ false ∷ []) i false ≡ (eqb i 1 && x)

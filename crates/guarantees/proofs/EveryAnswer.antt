@@ -1,7 +1,7 @@
 -- Every read gives what the model gives, every call answers so, and what can be seen is what the model shows, along every
 -- list of calls on a module that goes by its model.
 -- Assumes nothing.
-use Prim.Native.Nat.{ℕ, zero, suc, _+_, _<_, _^_}
+use Prim.Native.Nat.{ℕ, zero, suc, _+_, _*_, _<_, _^_}
 use native.Mathlib.Omega.{arith}
 use borrow.Author.Tests.{ltb-true, ltb-false, ne-eqb}
 use mathlib.Core.Bool.{Bool, true, false, cond, _&&_}
@@ -9,7 +9,7 @@ use mathlib.Core.List.{List, [], _∷_}
 use mathlib.Core.Path.{_≡_, refl, sym, ap, ap₂, _∙_, subst}
 use lib.Bits.{bitOr, or-lt}
 use lib.Dec.{eqb, ltb}
-use lib.ListN.{getD}
+use lib.ListN.{length, getD}
 use Rattle.words.specs.Words.{bit, ofBits, share}
 use Rattle.words.proofs.Laws.{bit-above, bit-ofBits, ofBits-below, bits-equal}
 use Rattle.registers.specs.declared.Register.{Register}
@@ -25,7 +25,7 @@ use Rattle.calls.specs.declared.Call.{Call}
 use Rattle.calls.specs.declared.Call.the-variants as call
 use Rattle.guarantees.specs.Reference.{frameOf}
 use Rattle.guarantees.specs.History.{Event, stepEvent, Model, runModel, Source}
-use Rattle.guarantees.specs.Model.{Held, Memory, remembered, lowByte, upTo, wordOf, readAt, refused, frameSaid, callSaid, stepSaid, answersByModel, seenByModel, alongModel}
+use Rattle.guarantees.specs.Behaviour.{Held, Memory, remembered, lowByte, wordBelow, wordOf, readAt, refused, frameSaid, callSaid, stepSaid, answersByModel, seenByModel, alongModel}
 use Rattle.guarantees.specs.Guarantees.{answers, seen, along}
 use Rattle.guarantees.proofs.Located.{Located, apart, located, at0000, at8000, copy, customer, at9000, at9001, at9002, at9003, at9004, at9005, at9006, at9007, threshold, ata060, ata061, ata064, ata065, ata066, ata067, ata068, ata069, ata070, ata071, ata074, ata075, unlisted}
 use Rattle.guarantees.proofs.Reading.{bits-are, Low, low0, low1, low2, low3, alike, HeldSound, none, some}
@@ -35,18 +35,46 @@ use Rattle.guarantees.proofs.Store.{step-sound}
 use Rattle.guarantees.proofs.Alarms.{LatchSound, AlarmsSound, alarms-sound, rx-bit, tx-bit, lasi-bit, flag-bit, line-is}
 
 -- ---- a word is the word of its bits
+-- from the lowest up, and from the highest down
+upTo : ℕ → (ℕ → Bool) → List Bool
+upTo zero p = []
+upTo (suc n) p = p 0 ∷ upTo n (λ i. p (suc i))
+
 up-to : (n : ℕ) (p : ℕ → Bool) (i : ℕ) → i < n → getD (upTo n p) i false ≡ p i
+unfolding upTo
 up-to zero p i h = absurd (omega arith)
 up-to (suc n) p zero h = refl
 up-to (suc n) p (suc i) h = up-to n (λ i. p (suc i)) i (omega arith)
 
+up-length : (n : ℕ) (p : ℕ → Bool) → length (upTo n p) ≡ n
+unfolding upTo
+up-length zero p = refl
+up-length (suc n) p = ap suc (up-length n (λ i. p (suc i)))
+
+twice : (b : Bool) (n : ℕ) → cond b (2 ^ suc n) 0 ≡ 2 * cond b (2 ^ n) 0
+twice true n = let e : 2 ^ suc n ≡ 2 * 2 ^ n = omega arith in e
+twice false n = refl
+
+word-last : (n : ℕ) (p : ℕ → Bool) → ofBits (upTo (suc n) p) ≡ ofBits (upTo n p) + cond (p n) (2 ^ n) 0
+unfolding upTo
+word-last zero p = omega arith
+word-last (suc n) p = omega (arith, word-last n (λ i. p (suc i)), twice (p (suc n)) n)
+
+word-below : (n : ℕ) (p : ℕ → Bool) → ofBits (upTo n p) ≡ wordBelow n p
+unfolding upTo
+word-below zero p = refl
+word-below (suc n) p = word-last n p ∙ ap (λ (w : ℕ). w + cond (p n) (2 ^ n) 0) (word-below n p)
+
 word-is : (v : ℕ) (p : ℕ → Bool) → v < 2 ^ 16 → ((i : ℕ) → bit i v ≡ p i) → v ≡ wordOf p
 unfolding wordOf
-word-is v p h e = bits-equal 16 h (ofBits-below (upTo 16 p)) (λ i. go i (ltb i 16) refl)
+word-is v p h e = bits-equal 16 h below (λ i. go i (ltb i 16) refl) ∙ word-below 16 p
   where
+    below : ofBits (upTo 16 p) < 2 ^ 16
+    below = rw (up-length 16 p) at (ofBits-below (upTo 16 p))
+
     go : (i : ℕ) (b : Bool) → ltb i 16 ≡ b → bit i v ≡ bit i (ofBits (upTo 16 p))
     go i true l = e i ∙ sym (bit-ofBits (upTo 16 p) i ∙ up-to 16 p i (ltb-true i 16 l))
-    go i false l = bit-above 16 i v h (ltb-false i 16 l) ∙ sym (bit-above 16 i (ofBits (upTo 16 p)) (ofBits-below (upTo 16 p)) (ltb-false i 16 l))
+    go i false l = bit-above 16 i v h (ltb-false i 16 l) ∙ sym (bit-above 16 i (ofBits (upTo 16 p)) below (ltb-false i 16 l))
 
 latched-word : {s : Source} {h : List Event} {l : Latch} → LatchSound s h l → latched l < 2 ^ 16
 latched-word {l = l} ok = or-lt 16 (l .live) (l .since) (ok .live-word) (ok .since-word)

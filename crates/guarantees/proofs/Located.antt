@@ -136,7 +136,7 @@ module _ (a : ℕ) where
       let w = within-true first last a t in
       copy (copy-range (omega arith) (omega arith)) (inside 0x8007 0x8106 a (omega arith) (omega arith)) (f (w .0) (w .1)) (below 0xa000 0xa027 a (omega arith))
 
-  customer-at : customerAt a ≡ true → Located a (Customer (a - 0x8007))
+  customer-at : within 0x807e 0x80ad a ≡ true → Located a (Customer (a - 0x8007))
   customer-at t =
       let w = within-true 0x807e 0x80ad a t in
       customer (copy-range (omega arith) (omega arith)) (inside 0x8007 0x8106 a (omega arith) (omega arith)) t (below 0xa000 0xa027 a (omega arith))

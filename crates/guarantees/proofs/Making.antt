@@ -19,7 +19,7 @@ use Rattle.answers.specs.declared.Answer.the-variants.{Accepted}
 use Rattle.xenpak.specs.Calls.{kept}
 use Rattle.xenpak.specs.declared.Module.{Module}
 use Rattle.creation.specs.Creation.{fresh, blank, make}
-use Rattle.guarantees.specs.Model.{says, refused, sumTo, makeRefusal, makeSaid}
+use Rattle.guarantees.specs.Behaviour.{says, refused, sumTo, makeRefusal, makeSaid}
 
 -- ---- the code's five tests: what is wrong
 abbrev number : (port image thresholds sum order : Bool) → ℕ

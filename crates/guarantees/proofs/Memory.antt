@@ -22,7 +22,7 @@ use Rattle.monitor.specs.Monitor.{afterRead}
 use Rattle.monitor.specs.declared.Monitor.{Monitor}
 use Rattle.answers.specs.Answers.{Said}
 use Rattle.xenpak.specs.declared.Module.{Module}
-use Rattle.guarantees.specs.Model.{Memory, noMemory, remember}
+use Rattle.guarantees.specs.Behaviour.{Memory, noMemory, remember}
 use Rattle.guarantees.proofs.Located.{located}
 use Rattle.guarantees.proofs.Reading.{idled, HeldSound, none, Holds, heldBy, reads-at}
 use Rattle.guarantees.proofs.Transition.{Reaction, Transition, unchanged, powering, cutting, resetting, ticking, lining, sampling, addressing, commanding, writing, controlling, reading}

@@ -1,4 +1,4 @@
--- The numbers and values of answers tell them apart: from what an answer says, the answer can be found again.
+-- Each call gets an answer of its kind, whose number and values tell it apart: the answer can be found again from them.
 -- Assumes nothing.
 use Prim.Native.Nat.{ℕ}
 use mathlib.Core.Bool.{cond}
@@ -16,7 +16,19 @@ use Rattle.answers.specs.declared.TickAnswer.{TickAnswer}
 use Rattle.answers.specs.declared.TickAnswer.the-variants as tick
 use Rattle.answers.specs.declared.SettleAnswer.{SettleAnswer}
 use Rattle.answers.specs.declared.SettleAnswer.the-variants as settle
-use Rattle.guarantees.specs.Guarantees.{Apart, Numbered}
+use Rattle.calls.specs.Calls.{step}
+use Rattle.calls.specs.declared.Call.the-variants as call
+use Rattle.guarantees.specs.Guarantees.{Kinds, Apart, Numbered}
+
+pub kinds : Kinds
+unfolding step
+kinds m call.PowerOn = refl
+kinds m (call.Cut cut) = refl
+kinds m call.ResetPin = refl
+kinds m (call.Frame word) = refl
+kinds m call.Tick = refl
+kinds m (call.Lines l) = refl
+kinds m (call.Sample s) = refl
 
 -- what is found again is told apart
 found-apart : {A : Type 0} (f : A → Said) (g : Said → A) → ((x : A) → g (f x) ≡ x) → Apart f

@@ -16,7 +16,7 @@ use Rattle.monitor.specs.declared.Monitor.{Monitor}
 use Rattle.latch.specs.Latch.{cleared}
 use Rattle.alarms.specs.Alarms as alarms
 use Rattle.alarms.specs.declared.Alarms.{Alarms}
-use Rattle.guarantees.specs.Model.{highAt, lowAt, bitsOf, codeAt, Held, nothingHeld, heldAt, heldAfterLow}
+use Rattle.guarantees.specs.Behaviour.{highAt, lowAt, bitsOf, codeAt, Held, nothingHeld, heldAt, heldAfterLow}
 use Rattle.guarantees.proofs.Located.{single, Located, apart, at0000, at8000, copy, customer, at9000, at9001, at9002, at9003, at9004, at9005, at9006, at9007, threshold, ata060, ata061, ata064, ata065, ata066, ata067, ata068, ata069, ata070, ata071, ata074, ata075, unlisted}
 
 -- ---- the job and the alarms

@@ -17,7 +17,7 @@ use Rattle.calls.specs.declared.Call.the-variants.{Tick}
 use Rattle.settling.specs.Settling.{ticks, due, settled, settle}
 use Rattle.settling.specs.declared.SettleOutcome.{SettleOutcome}
 use Rattle.guarantees.specs.Reference as job
-use Rattle.guarantees.specs.Model.{says, refused, ticksDue, settleCount, settleSaid}
+use Rattle.guarantees.specs.Behaviour.{says, refused, ticksDue, settleCount, settleSaid}
 use Rattle.guarantees.proofs.Transition.{jobRef, referenceOf}
 
 ticks-first : (n : ℕ) (m : Module) → ticks (suc n) m ≡ ticks n (tick m .next)

@@ -10,7 +10,6 @@ use lib.Dec.{eqb, leb, ltb}
 use lib.ListN.{length, getD, set, take, length-set}
 use lib.Seq.{getD-set-other, take-set-le}
 use borrow.Author.Tests.{leb-true, ltb-true, le-leb}
-use Rattle.words.specs.Words.{bit}
 use Rattle.registers.specs.Map.{registerAt}
 use Rattle.nvr.specs.Command.{keptBits, commandOf}
 use Rattle.nvr.specs.declared.command.Command.{Command}
@@ -24,7 +23,7 @@ use Rattle.answers.specs.Answers.{Said}
 use Rattle.calls.specs.Calls.{step, run}
 use Rattle.calls.specs.declared.Call.{Call}
 use Rattle.xenpak.specs.declared.Module.{Module}
-use Rattle.guarantees.specs.Reference.{Job, none, load, burn, Reference, withStore, withCopy, withAddress, withWord, customerOffset, idleOnceShown, tornStore, cutRef, advanced, tickRef, commandJob, commanded, readRef, incremented, stepRef}
+use Rattle.guarantees.specs.Reference.{Job, none, load, burn, Reference, withStore, withCopy, withAddress, withWord, bit, customerOffset, idleOnceShown, tornStore, cutRef, advanced, tickRef, commandJob, commanded, readRef, incremented, stepRef}
 use Rattle.guarantees.specs.BurnLog.{Entry, tickLog, cutLog, stepLog, burnLog, applied}
 use Rattle.guarantees.proofs.Located.{located}
 use Rattle.guarantees.proofs.Reading.{idled, reads-at}

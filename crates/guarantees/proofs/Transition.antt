@@ -9,9 +9,11 @@ use mathlib.Core.List.{List, [], _∷_}
 use mathlib.Core.Path.{_≡_, refl, sym, ap, ap₂, _∙_, subst}
 use lib.Bits.{bitAnd, bitOr}
 use lib.Dec.{eqb, leb, ltb}
+use lib.IntN.{ℤ, pos, negsuc}
 use lib.ListN.{set}
-use borrow.Author.Tests.{leb-true, leb-false}
-use Rattle.words.specs.Words.{bit}
+use lib.Signed.{leZ, ltZ}
+use borrow.Author.Tests.{leb-true, leb-false, le-leb, lt-leb}
+use Rattle.words.specs.Words as words
 use Rattle.mdio.specs.Frame.{asked, requestOf}
 use Rattle.mdio.specs.declared.Request.{Request}
 use Rattle.mdio.specs.declared.Request.the-variants as request
@@ -46,10 +48,10 @@ use Rattle.answers.specs.Answers.{Said, saidPlain, saidFrame, saidTick, powerOn
 use Rattle.calls.specs.declared.Call.{Call}
 use Rattle.calls.specs.declared.Call.the-variants as call
 use Rattle.xenpak.specs.declared.Module.{Module}
-use Rattle.guarantees.specs.Reference.{Job, none, load, burn, Reference, reference, withCopy, withAddress, withControls, withWord, zeroCopy, zeroControls, inRange, Frame, silent, sets, writes, reads, frameOf, customerAt, customerOffset, maskAt, withStatus, busy, idleOnceShown, started, cutRef, tickRef, commandJob, commandStatus, commanded, writable, written, readRef, incremented, frameRef, callRef, stepRef}
+use Rattle.guarantees.specs.Reference.{Job, none, load, burn, Reference, reference, withCopy, withAddress, withControls, withWord, zeroCopy, zeroControls, signed, outOfRange, bit, Frame, silent, sets, writes, reads, frameOf, customerAt, customerOffset, maskAt, withStatus, busy, idleOnceShown, started, cutRef, tickRef, commandJob, commandStatus, commanded, writable, written, readRef, incremented, frameRef, callRef, stepRef}
 use Rattle.guarantees.specs.BurnLog.{Entry, tickLog, cutLog, callLog, stepLog}
 use Rattle.guarantees.specs.History.{Event, nothing, poweredOn, wasReset, ticked, gotLines, gotSample, dataFrom, frameEvent, callEvent, stepEvent, Model, model, stepModel}
-use Rattle.guarantees.specs.Model.{refused, says, frameSaid, tickSaid, callSaid, stepSaid}
+use Rattle.guarantees.specs.Behaviour.{refused, says, frameSaid, tickSaid, callSaid, stepSaid}
 use Rattle.guarantees.proofs.Located.{single, Located, apart, located, at0000, at8000, copy, customer, at9000, at9001, at9002, at9003, at9004, at9005, at9006, at9007, threshold, ata060, ata061, ata064, ata065, ata066, ata067, ata068, ata069, ata070, ata071, ata074, ata075, unlisted}
 use Rattle.guarantees.proofs.Reading.{idled, readAlarms, reads-at}
 use Rattle.guarantees.proofs.StatusWord.{Kept, status-put, Ended, busy-word, shown-word}
@@ -93,6 +95,27 @@ frame-is w port = rw (div-one w) (go (eqb (w / 2 ^ 30) 0) (eqb (w / 2 ^ 23 % 32)
     go true true false = refl
     go true false d = refl
     go false p d = refl
+
+-- ---- samples: the code's test and the reference model's
+not-above : (a b : ℕ) → not (leb (suc a) b) ≡ leb b a
+not-above a b = go (leb (suc a) b) refl
+  where
+    go : (t : Bool) → leb (suc a) b ≡ t → not t ≡ leb b a
+    go true e = sym (lt-leb b a (leb-true (suc a) b e))
+    go false e = sym (le-leb b a (omega (arith, leb-false (suc a) b e)))
+
+not-less : (a b : ℤ) → not (ltZ a b) ≡ leZ b a
+not-less (pos a) (pos b) = not-above a b
+not-less (pos a) (negsuc b) = refl
+not-less (negsuc a) (pos b) = refl
+not-less (negsuc a) (negsuc b) = not-above b a
+
+neither : (x y : Bool) → not (x || y) ≡ (not x && not y)
+neither true y = refl
+neither false y = refl
+
+range-is : (t : ℤ) → not (outOfRange t) ≡ acceptable t
+range-is t = neither (ltZ t (signed 0xd800)) (ltZ (signed 0x7d00) t) ∙ ap₂ _&&_ (not-less t (signed 0xd800)) (not-less (signed 0x7d00) t)
 
 -- ---- what the reference model holds of a module
 abbrev pub jobRef : ModuleJob → Job
@@ -184,7 +207,7 @@ module _ (m : Module) where
   on-write : m .powered ≡ true → JobSound (m .job) (m .command) → (v value : ℕ) {a : ℕ} {r : Register} → Located a r
       → Written (writeTo r (isBusy (m .job)) v) value (writable (referenceOf m) v a) (written (referenceOf m) v a)
       (cond (eqb a 0x0000 && bit 15 v) wasReset nothing)
-  unfolding written
+  unfolding written words.bit
   on-write on h v value at0000 = resets (bit 15 v)
     where
       resets : (b : Bool) → Written (cond b action.Reset action.Dropped) value b (started (referenceOf m)) (cond b wasReset nothing)
@@ -290,15 +313,17 @@ transition m h (call.Lines l) =
     when m 0 (λ b. taken (callAnswer b true) m (calls.lined m l) .next) (λ b. saidPlain (callAnswer b true))
     (reacts (referenceOf m) (says 1 []) [] (gotLines l)) refl refl (λ on. lining l) (m .powered) refl
 transition m h (call.Sample s) =
-    when m (cond (inRange (s .temperature)) 0 6) (λ b. taken (callAnswer b (acceptable (s .temperature))) m (calls.sampled m s) .next)
-    (λ b. saidPlain (callAnswer b (acceptable (s .temperature)))) got refl refl (λ on. go (acceptable (s .temperature))) (m .powered) refl
+    when m (cond (outOfRange (s .temperature)) 6 0) (λ b. taken (callAnswer b (acceptable (s .temperature))) m (calls.sampled m s) .next)
+    (λ b. saidPlain (callAnswer b (acceptable (s .temperature)))) got refl refl
+    (λ on. subst (λ (b : Bool). Transition m (taken (callAnswer true b) m (calls.sampled m s) .next) (saidPlain (callAnswer true b)) (judged m (cond (outOfRange (s .temperature)) 6 0) got)) (range-is (s .temperature)) (go (outOfRange (s .temperature))))
+    (m .powered) refl
   where
     got : Reaction
     got = reacts (referenceOf m) (says 1 []) [] (gotSample s)
 
-    go : (b : Bool) → Transition m (taken (callAnswer true b) m (calls.sampled m s) .next) (saidPlain (callAnswer true b)) (judged m (cond b 0 6) got)
-    go true = sampling s
-    go false = unchanged refl refl
+    go : (b : Bool) → Transition m (taken (callAnswer true (not b)) m (calls.sampled m s) .next) (saidPlain (callAnswer true (not b))) (judged m (cond b 6 0) got)
+    go true = unchanged refl refl
+    go false = sampling s
 
 -- ---- the module keeps what the reference model holds
 pub zeros-are : zeros 256 ≡ zeroCopy
@@ -375,7 +400,7 @@ burn-ref o = go (leb o 117) (leb o 118) (leb o 166) (leb 119 o) refl refl refl r
     go false false false false p q r s = absurd (omega (arith, leb-false o 118 q, leb-false 119 o s))
 
 command-ref : (v : ℕ) → commandRef (commandOf v) ≡ commandJob v
-unfolding commandOf commandJob commandRef
+unfolding commandOf commandJob commandRef words.bit
 command-ref v = go (eqb (v % 4) 3) (eqb (v % 4) 2) (bit 5 v)
   where
     o : ℕ

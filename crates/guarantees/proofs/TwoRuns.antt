@@ -22,7 +22,7 @@ use Rattle.creation.specs.Creation as creation
 use Rattle.guarantees.specs.Reference.{none, Reference, reference, zeroControls, initial}
 use Rattle.guarantees.specs.BurnLog.{Entry, burnLog, applied}
 use Rattle.guarantees.specs.History.{Model, model, fresh, lineByHistory}
-use Rattle.guarantees.specs.Model.{makeRefusal, remembered, seenByModel, alongModel, settleCount, settleSaid}
+use Rattle.guarantees.specs.Behaviour.{makeRefusal, remembered, seenByModel, alongModel, settleCount, settleSaid}
 use Rattle.guarantees.specs.Guarantees.{answers, seen, along, ByModel, EveryAnswer, powerCycle, TwoRuns, Demand3}
 use Rattle.guarantees.proofs.Transition.{referenceOf, JobSound, zeros-are, Fixed, fixedOf, step-fixed, modelOf}
 use Rattle.guarantees.proofs.Store.{no-job-sound, step-sound, run-store, AllCustomer, log-customer, applied-length, applied-elsewhere, applied-front}

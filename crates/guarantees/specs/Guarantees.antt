@@ -17,15 +17,16 @@ use Rattle.xenpak.specs.Frame.{frame}
 use Rattle.xenpak.specs.declared.Module.{Module}
 use Rattle.reads.specs.Reads.{lineOf, counterOf, storedAt}
 use Rattle.calls.specs.Calls.{said, step, run}
-use Rattle.calls.specs.declared.CallAnswer.the-variants.{Frame}
+use Rattle.calls.specs.declared.CallAnswer.{CallAnswer}
+use Rattle.calls.specs.declared.CallAnswer.the-variants as answer
 use Rattle.calls.specs.declared.Call.{Call}
-use Rattle.calls.specs.declared.Call.the-variants.{PowerOn, Cut, Tick}
+use Rattle.calls.specs.declared.Call.the-variants.{PowerOn, Cut, ResetPin, Frame, Tick, Lines, Sample}
 use Rattle.settling.specs.Settling.{settle}
 use Rattle.creation.specs.Creation.{make}
 use Rattle.guarantees.specs.Reference.{initial, customerOffset}
 use Rattle.guarantees.specs.BurnLog.{burnLog, applied}
 use Rattle.guarantees.specs.History.{Model, fresh, runModel, lineByHistory}
-use Rattle.guarantees.specs.Model.{makeRefusal, makeSaid, answersByModel, Seen, seenByModel, alongModel, settleCount, settleSaid, tenths}
+use Rattle.guarantees.specs.Behaviour.{makeRefusal, makeSaid, answersByModel, Seen, seenByModel, alongModel, settleCount, settleSaid, tenths}
 
 -- ---- what can be seen of a run
 -- the answer to each call
@@ -111,10 +112,10 @@ abbrev pub RefusedUnchanged : Type 0
 RefusedUnchanged = (m : Module) (c : Call) → said (step m c .answer) .refusal ≢ 0 → step m c .next ≡ m
 
 abbrev pub SilentUnchanged : Type 0
-SilentUnchanged = (m : Module) (c : Call) → step m c .answer ≡ Frame Silent → step m c .next ≡ m
+SilentUnchanged = (m : Module) (c : Call) → step m c .answer ≡ answer.Frame Silent → step m c .next ≡ m
 
 abbrev pub DroppedUnchanged : Type 0
-DroppedUnchanged = (m : Module) (c : Call) → step m c .answer ≡ Frame Dropped → step m c .next ≡ m
+DroppedUnchanged = (m : Module) (c : Call) → step m c .answer ≡ answer.Frame Dropped → step m c .next ≡ m
 
 -- the copy begins as 256 zeros: after power-on, the reset pin and a write taken at 0000 there is a byte at each offset, and
 -- it is 0, whatever the default for where there is none
@@ -126,7 +127,28 @@ pub record ZeroCopy (m : Module) : Type 0 where
   pub reset-pin : resetPin m .answer ≡ Accepted → Zeros (resetPin m .next .copy)
   pub reset-frame : (word : ℕ) → m .bus .address ≡ 0 → frame m word .answer ≡ Written → Zeros (frame m word .next .copy)
 
--- the numbers and values of answers tell them apart
+-- a frame gets a frame's answer, a tick a tick's, every other call a plain one
+pub data Kind : Type 0 where
+  plain framed ticked : Kind
+
+abbrev pub kindOf : CallAnswer → Kind
+kindOf (answer.Plain a) = plain
+kindOf (answer.Frame a) = framed
+kindOf (answer.Tick a) = ticked
+
+abbrev pub kindFor : Call → Kind
+kindFor PowerOn = plain
+kindFor (Cut cut) = plain
+kindFor ResetPin = plain
+kindFor (Frame word) = framed
+kindFor Tick = ticked
+kindFor (Lines l) = plain
+kindFor (Sample s) = plain
+
+abbrev pub Kinds : Type 0
+Kinds = (m : Module) (c : Call) → kindOf (step m c .answer) ≡ kindFor c
+
+-- the numbers and values of the answers of a kind tell them apart
 abbrev pub Apart : {A : Type 0} → (A → Said) → Type 0
 Apart {A} f = (x y : A) → f x ≡ f y → x ≡ y
 

@@ -1,20 +1,19 @@
 -- The history rule (document 01: the history rule): which alarm bits stand, and the alarm line, from the accepted calls.
--- Power, the address that a read is from and the controls are the reference model's. Of the code it takes the bits of a
--- word and the types of the calls.
+-- Power, the address that a read is from and the controls are the reference model's. Of the code it takes the types of the
+-- calls.
 -- Assumes nothing.
-use Prim.Native.Nat.{ℕ, _+_, _-_, _*_}
+use Prim.Native.Nat.{ℕ, zero, suc, _+_, _-_, _*_}
 use mathlib.Core.Bool.{Bool, false, not, _&&_, _||_}
 use mathlib.Core.List.{List, [], _∷_}
 use lib.Dec.{eqb}
 use lib.IntN.{ℤ, pos}
 use lib.ListN.{getD}
 use lib.Signed.{ltZ}
-use Rattle.words.specs.Words.{bit, anyBit}
 use Rattle.dom.specs.declared.Sample.{Sample}
 use Rattle.alarms.specs.declared.Lines.{Lines}
 use Rattle.calls.specs.declared.Call.{Call}
 use Rattle.calls.specs.declared.Call.the-variants as call
-use Rattle.guarantees.specs.Reference.{if_then_else_, Reference, initial, signed, accepts, Frame, silent, sets, writes, reads, frameOf, control, stepRef}
+use Rattle.guarantees.specs.Reference.{if_then_else_, Reference, initial, signed, accepts, Frame, silent, sets, writes, reads, bit, frameOf, control, stepRef}
 
 -- ---- events: what a call is to what is read after it
 pub data Event : Type 0 where
@@ -78,13 +77,25 @@ pub data Quantity : Type 0 where
 abbrev pub thresholdAt : List ℕ → (address : ℕ) → ℕ
 thresholdAt t a = getD t (a - 0xa000) 0 * 256 + getD t (a + 1 - 0xa000) 0
 
--- a quantity's threshold, so many bytes after its first: high alarm 0, low alarm 2, high warning 4, low warning 6.
--- Temperature's are signed
-abbrev pub threshold : List ℕ → Quantity → (bytes : ℕ) → ℤ
-threshold t temperature bytes = signed (thresholdAt t (0xa000 + bytes))
-threshold t bias bytes = pos (thresholdAt t (0xa010 + bytes))
-threshold t transmit bytes = pos (thresholdAt t (0xa018 + bytes))
-threshold t receive bytes = pos (thresholdAt t (0xa020 + bytes))
+-- where a quantity's four thresholds stand from its first byte on
+abbrev pub highAlarm : ℕ
+highAlarm = 0
+
+abbrev pub lowAlarm : ℕ
+lowAlarm = 2
+
+abbrev pub highWarning : ℕ
+highWarning = 4
+
+abbrev pub lowWarning : ℕ
+lowWarning = 6
+
+-- temperature A000, which is signed, bias A010, transmit power A018, receive power A020
+abbrev pub threshold : List ℕ → Quantity → (place : ℕ) → ℤ
+threshold t temperature place = signed (thresholdAt t (0xa000 + place))
+threshold t bias place = pos (thresholdAt t (0xa010 + place))
+threshold t transmit place = pos (thresholdAt t (0xa018 + place))
+threshold t receive place = pos (thresholdAt t (0xa020 + place))
 
 abbrev pub reading : Sample → Quantity → ℤ
 reading s temperature = s .temperature
@@ -92,36 +103,29 @@ reading s bias = pos (s .bias)
 reading s transmit = pos (s .transmit)
 reading s receive = pos (s .receive)
 
--- the bytes before a level's high threshold; its low one is the next
-abbrev pub alarm : ℕ
-alarm = 0
-
-abbrev pub warning : ℕ
-warning = 4
-
 -- high above its threshold, low below, equality neither
-abbrev pub high : List ℕ → (level : ℕ) → Sample → Quantity → Bool
-high t level s q = ltZ (threshold t q level) (reading s q)
+abbrev pub above : List ℕ → Sample → Quantity → (place : ℕ) → Bool
+above t s q place = ltZ (threshold t q place) (reading s q)
 
-abbrev pub low : List ℕ → (level : ℕ) → Sample → Quantity → Bool
-low t level s q = ltZ (reading s q) (threshold t q (level + 2))
+abbrev pub below : List ℕ → Sample → Quantity → (place : ℕ) → Bool
+below t s q place = ltZ (reading s q) (threshold t q place)
 
--- A070 and A074: temperature high 7, low 6; bias 3, 2; transmit power 1, 0
-abbrev pub txFlags : List ℕ → (level : ℕ) → Sample → ℕ → Bool
-txFlags t level s i =
-    if eqb i 7 then high t level s temperature else
-    if eqb i 6 then low t level s temperature else
-    if eqb i 3 then high t level s bias else
-    if eqb i 2 then low t level s bias else
-    if eqb i 1 then high t level s transmit else
-    if eqb i 0 then low t level s transmit else
+-- A070 and A074, by their high and low thresholds: temperature high 7, low 6; bias 3, 2; transmit power 1, 0
+abbrev pub txFlags : List ℕ → (high low : ℕ) → Sample → ℕ → Bool
+txFlags t high low s i =
+    if eqb i 7 then above t s temperature high else
+    if eqb i 6 then below t s temperature low else
+    if eqb i 3 then above t s bias high else
+    if eqb i 2 then below t s bias low else
+    if eqb i 1 then above t s transmit high else
+    if eqb i 0 then below t s transmit low else
     false
 
 -- A071 and A075: receive power high 7, low 6
-abbrev pub rxFlags : List ℕ → (level : ℕ) → Sample → ℕ → Bool
-rxFlags t level s i =
-    if eqb i 7 then high t level s receive else
-    if eqb i 6 then low t level s receive else
+abbrev pub rxFlags : List ℕ → (high low : ℕ) → Sample → ℕ → Bool
+rxFlags t high low s i =
+    if eqb i 7 then above t s receive high else
+    if eqb i 6 then below t s receive low else
     false
 
 -- ---- what an event is to an alarm
@@ -135,13 +139,9 @@ pub data Effect : Type 0 where
   -- it is a lines call, or a sample, that has these bits
   gives : (ℕ → Bool) → Effect
 
--- after the older events
+-- what each event is to it, after those before
 abbrev pub Source : Type 0
 Source = (older : List Event) → Event → Effect
-
--- a data answer clears the register that it is from
-abbrev pub clearsAt : (register address : ℕ) → Effect
-clearsAt register a = if eqb a register then clears else keeps
 
 -- over lines calls: power-on forgets, a reset or a data answer from the register clears
 abbrev pub overLines : (register : ℕ) → (List Event → Lines → ℕ → Bool) → Source
@@ -151,7 +151,7 @@ overLines register bits older wasReset = clears
 overLines register bits older ticked = keeps
 overLines register bits older (gotLines l) = gives (bits older l)
 overLines register bits older (gotSample s) = keeps
-overLines register bits older (dataFrom a) = clearsAt register a
+overLines register bits older (dataFrom a) = if eqb a register then clears else keeps
 
 -- likewise over samples, but a reset also forgets the latest
 abbrev pub overSamples : (register : ℕ) → (Sample → ℕ → Bool) → Source
@@ -161,7 +161,7 @@ overSamples register bits older wasReset = forgets
 overSamples register bits older ticked = keeps
 overSamples register bits older (gotLines l) = keeps
 overSamples register bits older (gotSample s) = gives (bits s)
-overSamples register bits older (dataFrom a) = clearsAt register a
+overSamples register bits older (dataFrom a) = if eqb a register then clears else keeps
 
 -- the latest call has bit i; `before` says it of the older events
 abbrev pub latestAfter : Effect → ℕ → (before : Bool) → Bool
@@ -197,7 +197,7 @@ rxFaults = overLines 0x9003 (λ older l i. bit i (l .receive) && bit i 0x0039)
 abbrev pub txFaults : Source
 txFaults = overLines 0x9004 (λ older l i. bit i (l .transmit) && bit i 0x03d9)
 
--- the link is up when all three levels are, and down at power-on
+-- the link is up when all three levels are, and down at power-on; a read clears nothing of the latest
 abbrev pub linkOf : Lines → Bool
 linkOf l = l .signal && l .block && l .lanes
 
@@ -210,21 +210,25 @@ linkChange = overLines 0x9005 (λ older l i. if latestHas link older 0 then not 
 
 -- alarm flags, warning flags
 abbrev pub txAlarms : List ℕ → Source
-txAlarms t = overSamples 0xa070 (txFlags t alarm)
+txAlarms t = overSamples 0xa070 (txFlags t highAlarm lowAlarm)
 
 abbrev pub rxAlarms : List ℕ → Source
-rxAlarms t = overSamples 0xa071 (rxFlags t alarm)
+rxAlarms t = overSamples 0xa071 (rxFlags t highAlarm lowAlarm)
 
 abbrev pub txWarnings : List ℕ → Source
-txWarnings t = overSamples 0xa074 (txFlags t warning)
+txWarnings t = overSamples 0xa074 (txFlags t highWarning lowWarning)
 
 abbrev pub rxWarnings : List ℕ → Source
-rxWarnings t = overSamples 0xa075 (rxFlags t warning)
+rxWarnings t = overSamples 0xa075 (rxFlags t highWarning lowWarning)
 
 -- ---- the alarm registers and the line
--- a control and the bits that stand share a bit
+-- a control and the bits that stand share one below n; one of 16
+abbrev pub sharesBelow : (n control : ℕ) → (ℕ → Bool) → Bool
+sharesBelow zero w stand = false
+sharesBelow (suc n) w stand = bit n w && stand n || sharesBelow n w stand
+
 abbrev pub shares : (control : ℕ) → (ℕ → Bool) → Bool
-shares w stand = anyBit 16 (λ i. bit i w && stand i)
+shares w stand = sharesBelow 16 w stand
 
 -- 9003: bit 1 is whether A071 and 9007 share a bit
 abbrev pub rxAlarmBit : Model → ℕ → Bool

@@ -2,5 +2,5 @@
 pub mod Reference
 pub mod BurnLog
 pub mod History
-pub mod Model
+pub mod Behaviour
 pub mod Guarantees

@@ -1,6 +1,6 @@
 -- The reference model (document 01: the reckoning): power, store, copy, address, controls, the word at 8000, and a job,
--- from port, image and calls alone. With BurnLog, History and Model it tells document 01 a second time, by its addresses
--- and numbers: of the code it takes the bits of a word and the types of the calls.
+-- from port, image and calls alone. With BurnLog, History and Behaviour it tells document 01 a second time, by its addresses
+-- and numbers: of the code it takes the types of the calls.
 -- Assumes nothing.
 use Prim.Native.Nat.{ℕ, _+_, _-_, _*_, _/_, _%_, _^_}
 use mathlib.Core.Bool.{Bool, true, false, cond, not, _&&_, _||_}
@@ -9,8 +9,7 @@ use lib.Bits.{bitAnd, bitOr}
 use lib.Dec.{eqb, leb, ltb}
 use lib.IntN.{ℤ, pos, subℕ}
 use lib.ListN.{getD, set, replicate}
-use lib.Signed.{leZ}
-use Rattle.words.specs.Words.{bit}
+use lib.Signed.{ltZ}
 use Rattle.store.specs.declared.Cut.{Cut}
 use Rattle.store.specs.declared.Cut.the-variants.{Clean, Torn}
 use Rattle.calls.specs.declared.Call.{Call}
@@ -31,7 +30,7 @@ pub record Reference : Type 0 where
   pub store : List ℕ
   pub copy : List ℕ
   pub address : ℕ
-  -- at 9000 to 9007; 9003 to 9005 are none, and stay 0
+  -- at 9000 to 9007; 9003 to 9005 are no controls, and stay 0
   pub controls : List ℕ
   -- at 8000
   pub word : ℕ
@@ -73,9 +72,9 @@ initial image = reference false image zeroCopy 0 zeroControls 0 none
 abbrev pub signed : ℕ → ℤ
 signed n = if ltb n 0x8000 then pos n else subℕ n 0x10000
 
--- not below D800 nor above 7D00 as signed
-abbrev pub inRange : (temperature : ℤ) → Bool
-inRange t = leZ (signed 0xd800) t && leZ t (signed 0x7d00)
+-- below D800 or above 7D00 as signed
+abbrev pub outOfRange : (temperature : ℤ) → Bool
+outOfRange t = ltZ t (signed 0xd800) || ltZ (signed 0x7d00) t
 
 -- 7 when off, which precedes the call's own number
 abbrev pub whenOn : Reference → ℕ → ℕ
@@ -89,13 +88,16 @@ refusal r call.ResetPin = whenOn r 0
 refusal r (call.Frame word) = whenOn r 0
 refusal r call.Tick = whenOn r 0
 refusal r (call.Lines l) = whenOn r 0
-refusal r (call.Sample s) = whenOn r (if inRange (s .temperature) then 0 else 6)
+refusal r (call.Sample s) = whenOn r (if outOfRange (s .temperature) then 6 else 0)
 
 abbrev pub accepts : Reference → Call → Bool
 accepts r c = eqb (refusal r c) 0
 
 -- ---- frames
--- bits high to low of a word
+-- bit i of a word, bit 0 the lowest; bits high to low
+abbrev pub bit : ℕ → ℕ → Bool
+bit i w = eqb (w / 2 ^ i % 2) 1
+
 abbrev pub field : (high low : ℕ) → ℕ → ℕ
 field high low w = w / 2 ^ low % 2 ^ (high + 1 - low)
 

@@ -15,7 +15,7 @@ use Rattle.calls.specs.Calls.{step, run}
 use Rattle.guarantees.specs.Reference.{zeroCopy, frameOf, cutRef, tickRef, commandJob, commanded, written, readRef, frameRef, callRef, stepRef}
 use Rattle.guarantees.specs.BurnLog.{callLog, stepLog, burnLog}
 use Rattle.guarantees.specs.History.{frameEvent, callEvent, stepEvent, runModel, latestHas, someSince, lineByHistory}
-use Rattle.guarantees.specs.Model.{makeRefusal, remembered, wordOf, readAt, callSaid, stepSaid, answersByModel, alongModel}
+use Rattle.guarantees.specs.Behaviour.{makeRefusal, remembered, wordOf, readAt, callSaid, stepSaid, answersByModel, alongModel}
 use Rattle.guarantees.specs.Guarantees.{answers, along}
 use Rattle.table.specs.Table.{table, expected, result, resultByModel, expectedLog, logOf, Cases}
 

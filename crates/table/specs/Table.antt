@@ -17,7 +17,7 @@ use Rattle.xenpak.specs.declared.Module.{Module}
 use Rattle.guarantees.specs.Reference.{initial}
 use Rattle.guarantees.specs.BurnLog.{Entry, entry, burnLog}
 use Rattle.guarantees.specs.History.{Model, fresh, runModel}
-use Rattle.guarantees.specs.Model.{says, makeSaid, answersByModel, Seen, seenByModel, alongModel, tenths}
+use Rattle.guarantees.specs.Behaviour.{says, makeSaid, answersByModel, Seen, seenByModel, alongModel, tenths}
 use Rattle.guarantees.specs.Guarantees.{answers, seen, along}
 
 -- ---- the module: at port 0
@@ -26,13 +26,13 @@ abbrev pub image : List ℕ
 image = replicate 118 0x01 ++ (0x76 ∷ replicate 137 0x02)
 
 -- high alarm, low alarm 0, high warning, low warning 0: no reading of the table crosses these
-abbrev pub upTo : ℕ → ℕ → List ℕ
-upTo alarm warning = alarm ∷ 0 ∷ 0 ∷ 0 ∷ warning ∷ 0 ∷ 0 ∷ 0 ∷ []
+abbrev pub quantity : ℕ → ℕ → List ℕ
+quantity alarm warning = alarm ∷ 0 ∷ 0 ∷ 0 ∷ warning ∷ 0 ∷ 0 ∷ 0 ∷ []
 
 -- temperature high alarm 4600, low alarm FB00, high warning 4000, low warning FC00; each other quantity has its own
 abbrev pub thresholds : List ℕ
 thresholds =
-    (0x46 ∷ 0 ∷ 0xfb ∷ 0 ∷ 0x40 ∷ 0 ∷ 0xfc ∷ 0 ∷ []) ++ replicate 8 0x55 ++ upTo 0xf0 0xe0 ++ upTo 0xd0 0xc0 ++ upTo 0xb0 0xa0
+    (0x46 ∷ 0 ∷ 0xfb ∷ 0 ∷ 0x40 ∷ 0 ∷ 0xfc ∷ 0 ∷ []) ++ replicate 8 0x55 ++ quantity 0xf0 0xe0 ++ quantity 0xd0 0xc0 ++ quantity 0xb0 0xa0
 
 -- ---- steps: some calls, their answers, and the alarm line after them
 pub record Step : Type 0 where

@@ -1,21 +1,20 @@
--- The whole model: what making answers, what a read gives, what every call answers, and what can be seen, from the
+-- What the model answers and shows: making, every read, every call, what can be seen, settling and the readout, from the
 -- reference model, the thresholds and the history. With Reference, BurnLog and History it tells document 01 a second time:
--- of the code it takes the bits of a word, the types of the calls and the form of an answer.
+-- of the code it takes the types of the calls and the form of an answer.
 -- Assumes nothing.
-use Prim.Native.Nat.{ℕ, zero, suc, _+_, _-_, _*_, _/_, _%_, min}
+use Prim.Native.Nat.{ℕ, zero, suc, _+_, _-_, _*_, _/_, _%_, _^_, min}
 use mathlib.Core.Bool.{Bool, not, _||_, _&&_}
 use mathlib.Core.List.{List, [], _∷_}
 use lib.Dec.{eqb, ltb}
 use lib.IntN.{ℤ, pos, negsuc, negℤ}
 use lib.ListN.{length, getD}
 use lib.Signed.{leZ}
-use Rattle.words.specs.Words.{ofBits}
 use Rattle.answers.specs.Answers.{Said}
 use Rattle.dom.specs.declared.Sample.{Sample}
 use Rattle.calls.specs.declared.Call.{Call}
 use Rattle.calls.specs.declared.Call.the-variants as call
 use Rattle.guarantees.specs.Reference.{if_then_else_, Job, none, load, burn, Reference, refusal, accepts, Frame, silent, sets, writes, reads, frameOf, within, copyAt, controlAt, control, writable}
-use Rattle.guarantees.specs.History.{Event, nothing, poweredOn, wasReset, ticked, gotLines, gotSample, dataFrom, Model, stepModel, Quantity, temperature, bias, transmit, receive, threshold, reading, txAlarms, rxAlarms, txWarnings, rxWarnings, stands, rxAlarmBit, txAlarmBit, lasiBit, lineByHistory}
+use Rattle.guarantees.specs.History.{Event, nothing, poweredOn, wasReset, ticked, gotLines, gotSample, dataFrom, Model, stepModel, Quantity, temperature, bias, transmit, receive, highAlarm, lowAlarm, highWarning, lowWarning, threshold, reading, txAlarms, rxAlarms, txWarnings, rxWarnings, stands, rxAlarmBit, txAlarmBit, lasiBit, lineByHistory}
 
 -- ---- answers: which one it is counts from 1 in document 01's order, 0 is a refusal's
 abbrev pub says : (which : ℕ) → (values : List ℕ) → Said
@@ -33,8 +32,8 @@ sumTo image (suc n) = sumTo image n + getD image n 0
 -- low alarm ≤ low warning ≤ high warning ≤ high alarm
 abbrev pub inOrder : List ℕ → Quantity → Bool
 inOrder t q =
-    leZ (threshold t q 2) (threshold t q 6) && leZ (threshold t q 6) (threshold t q 4)
-    && leZ (threshold t q 4) (threshold t q 0)
+    leZ (threshold t q lowAlarm) (threshold t q lowWarning) && leZ (threshold t q lowWarning) (threshold t q highWarning)
+    && leZ (threshold t q highWarning) (threshold t q highAlarm)
 
 -- its refusal, 0 where it is accepted
 unfoldable pub makeRefusal : (port : ℕ) (image thresholds : List ℕ) → ℕ
@@ -116,13 +115,13 @@ remembered [] = noMemory 0
 remembered (e ∷ h) = remember e (remembered h)
 
 -- ---- what a read gives
--- the 16-bit word of these bits
-abbrev pub upTo : ℕ → (ℕ → Bool) → List Bool
-upTo zero p = []
-upTo (suc n) p = p 0 ∷ upTo n (λ i. p (suc i))
+-- the word of these bits below n; of 16
+abbrev pub wordBelow : ℕ → (ℕ → Bool) → ℕ
+wordBelow zero p = 0
+wordBelow (suc n) p = wordBelow n p + (if p n then 2 ^ n else 0)
 
 unfoldable pub wordOf : (ℕ → Bool) → ℕ
-wordOf p = ofBits (upTo 16 p)
+wordOf p = wordBelow 16 p
 
 -- a low address gives the byte held there, or the last sample's
 abbrev pub lowByte : Held → (address now : ℕ) → ℕ
@@ -145,8 +144,7 @@ readAt m k a =
     if eqb a 0xa075 then wordOf (stands m (rxWarnings (m .thresholds))) else
     if within 0xa000 0xa027 a then getD (m .thresholds) (a - 0xa000) 0 else
     if highAt a then codeAt (k .sample) a / 256 else
-    if lowAt a then lowByte (k .held) a (codeAt (k .sample) a % 256) else
-    0
+    if lowAt a then lowByte (k .held) a (codeAt (k .sample) a % 256) else 0
 
 -- ---- what every call answers
 -- silent, set, written, dropped, data
