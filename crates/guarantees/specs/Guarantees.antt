@@ -6,13 +6,14 @@ use mathlib.Core.List.{List, [], _∷_, _++_}
 use mathlib.Core.Logic.{_≢_}
 use mathlib.Core.Path.{_≡_}
 use lib.IntN.{ℤ}
-use lib.ListN.{length, getD, replicate}
+use lib.ListN.{length, getD, set, replicate}
 use Rattle.store.specs.declared.Cut.the-variants.{Clean}
 use Rattle.dom.specs.Readout.{tenthsOf}
 use Rattle.answers.specs.Answers.{Said, saidPlain, saidFrame, saidTick, saidSettle}
 use Rattle.answers.specs.declared.Answer.the-variants.{Accepted}
 use Rattle.answers.specs.declared.FrameAnswer.the-variants.{Silent, Written, Dropped}
-use Rattle.xenpak.specs.Calls.{powerOn, resetPin}
+use Rattle.answers.specs.declared.TickAnswer.the-variants.{Loaded, Burned}
+use Rattle.xenpak.specs.Calls.{powerOn, resetPin, tick}
 use Rattle.xenpak.specs.Frame.{frame}
 use Rattle.xenpak.specs.declared.Module.{Module}
 use Rattle.reads.specs.Reads.{lineOf, counterOf, storedAt}
@@ -116,6 +117,11 @@ SilentUnchanged = (m : Module) (c : Call) → step m c .answer ≡ answer.Frame 
 
 abbrev pub DroppedUnchanged : Type 0
 DroppedUnchanged = (m : Module) (c : Call) → step m c .answer ≡ answer.Frame Dropped → step m c .next ≡ m
+
+-- a tick did what it answers, whatever the record holds: loaded, the copy has that byte at that offset; burned, the store
+pub record TickTells (m : Module) : Type 0 where
+  pub loaded : (o b : ℕ) → tick m .answer ≡ Loaded o b → (tick m .next .copy ≡ set (m .copy) o b) × (tick m .next .store ≡ m .store)
+  pub burned : (o b : ℕ) → tick m .answer ≡ Burned o b → (tick m .next .store ≡ set (m .store) o b) × (tick m .next .copy ≡ m .copy)
 
 -- the copy begins as 256 zeros: after power-on, the reset pin and a write taken at 0000 there is a byte at each offset, and
 -- it is 0, whatever the default for where there is none
