@@ -4,7 +4,7 @@ use Prim.Native.Nat.{ℕ}
 use native.Mathlib.Omega.{arith}
 use mathlib.Core.List.{List}
 use mathlib.Core.Path.{_≡_, refl, ap₂}
-use lib.ListN.{getD, set}
+use lib.ListN.{set}
 use Rattle.work.specs.Work.{workOf}
 use Rattle.work.specs.declared.Work.{Work}
 use Rattle.work.specs.declared.Work.the-variants as work
