@@ -139,7 +139,7 @@ pub data Effect : Type 0 where
   -- it is a lines call, or a sample, that has these bits
   gives : (ℕ → Bool) → Effect
 
--- what each event is to it, after those before
+-- an alarm's rule: what each event is to it, after the older ones
 abbrev pub Source : Type 0
 Source = (older : List Event) → Event → Effect
 
@@ -197,14 +197,14 @@ rxFaults = overLines 0x9003 (λ older l i. bit i (l .receive) && bit i 0x0039)
 abbrev pub txFaults : Source
 txFaults = overLines 0x9004 (λ older l i. bit i (l .transmit) && bit i 0x03d9)
 
--- the link is up when all three levels are, and down at power-on; a read clears nothing of the latest
+-- the link is up when all three levels are, down at power-on; of `link` only the latest is asked, which no read clears
 abbrev pub linkOf : Lines → Bool
 linkOf l = l .signal && l .block && l .lanes
 
 abbrev pub link : Source
 link = overLines 0x9005 (λ older l i. linkOf l)
 
--- a lines call changes the link
+-- a lines call that changes the link
 abbrev pub linkChange : Source
 linkChange = overLines 0x9005 (λ older l i. if latestHas link older 0 then not (linkOf l) else linkOf l)
 
