@@ -1,6 +1,6 @@
 -- What is guaranteed: demands 2 and 3 as statements about whole lists of calls, and what goes beyond them.
 -- Assumes nothing.
-use Prim.Native.Nat.{ℕ, _<_}
+use Prim.Native.Nat.{ℕ, _-_, _<_}
 use mathlib.Core.Bool.{false, cond}
 use mathlib.Core.List.{List, [], _∷_, _++_}
 use mathlib.Core.Logic.{_≢_}
@@ -10,9 +10,20 @@ use lib.ListN.{length, getD, set, replicate}
 use Rattle.store.specs.declared.Cut.the-variants.{Clean}
 use Rattle.dom.specs.Readout.{tenthsOf}
 use Rattle.answers.specs.Answers.{Said, saidPlain, saidFrame, saidTick, saidSettle}
+use Rattle.answers.specs.declared.Refusal.{Refusal}
+use Rattle.answers.specs.declared.Refusal.the-variants.{Port, ImageLength, ThresholdsLength, Checksum, ThresholdOrder, Temperature, PoweredOff, PoweredOn}
+use Rattle.answers.specs.declared.Answer.{Answer}
 use Rattle.answers.specs.declared.Answer.the-variants.{Accepted}
-use Rattle.answers.specs.declared.FrameAnswer.the-variants.{Silent, Written, Dropped}
-use Rattle.answers.specs.declared.TickAnswer.the-variants.{Loaded, Burned}
+use Rattle.answers.specs.declared.Answer.the-variants as to-call
+use Rattle.answers.specs.declared.FrameAnswer.{FrameAnswer}
+use Rattle.answers.specs.declared.FrameAnswer.the-variants.{Silent, Set, Written, Dropped, Data}
+use Rattle.answers.specs.declared.FrameAnswer.the-variants as to-frame
+use Rattle.answers.specs.declared.TickAnswer.{TickAnswer}
+use Rattle.answers.specs.declared.TickAnswer.the-variants.{Nothing, Loaded, Burned}
+use Rattle.answers.specs.declared.TickAnswer.the-variants as to-tick
+use Rattle.answers.specs.declared.SettleAnswer.{SettleAnswer}
+use Rattle.answers.specs.declared.SettleAnswer.the-variants.{Ticks}
+use Rattle.answers.specs.declared.SettleAnswer.the-variants as to-settle
 use Rattle.xenpak.specs.Calls.{powerOn, resetPin, tick}
 use Rattle.xenpak.specs.Frame.{frame}
 use Rattle.xenpak.specs.declared.Module.{Module}
@@ -154,16 +165,36 @@ kindFor (Sample s) = plain
 abbrev pub Kinds : Type 0
 Kinds = (m : Module) (c : Call) → kindOf (step m c .answer) ≡ kindFor c
 
--- the numbers and values of the answers of a kind tell them apart
-abbrev pub Apart : {A : Type 0} → (A → Said) → Type 0
-Apart {A} f = (x y : A) → f x ≡ f y → x ≡ y
+-- ---- document 01's numbers: what is said tells the answer
+-- its refusals, from 1
+abbrev pub refusals : List Refusal
+refusals = Port ∷ ImageLength ∷ ThresholdsLength ∷ Checksum ∷ ThresholdOrder ∷ Temperature ∷ PoweredOff ∷ PoweredOn ∷ []
 
+-- a refusal, or one of the answers to a call of a kind, from 1, with the values said
+abbrev pub told : {A : Type 0} → (Refusal → A) → ((value : ℕ → ℕ) → List A) → Said → A
+told refused answers s =
+    getD (refused (getD refusals (s .refusal - 1) Port) ∷ answers (λ i. getD (s .values) i 0)) (s .which) (refused Port)
+
+abbrev pub plainTold : Said → Answer
+plainTold = told to-call.Refused (λ value. Accepted ∷ [])
+
+abbrev pub frameTold : Said → FrameAnswer
+frameTold = told to-frame.Refused (λ value. Silent ∷ Set ∷ Written ∷ Dropped ∷ Data (value 0) ∷ [])
+
+abbrev pub tickTold : Said → TickAnswer
+tickTold = told to-tick.Refused (λ value. Nothing ∷ Loaded (value 0) (value 1) ∷ Burned (value 0) (value 1) ∷ [])
+
+abbrev pub settleTold : Said → SettleAnswer
+settleTold = told to-settle.Refused (λ value. Ticks (value 0) ∷ [])
+
+-- so no two answers of a kind are said alike
 pub record Numbered : Type 0 where
-  pub plain : Apart saidPlain
-  pub frames : Apart saidFrame
-  pub ticks : Apart saidTick
-  pub settling : Apart saidSettle
+  pub plain : (a : Answer) → plainTold (saidPlain a) ≡ a
+  pub frames : (a : FrameAnswer) → frameTold (saidFrame a) ≡ a
+  pub ticks : (a : TickAnswer) → tickTold (saidTick a) ≡ a
+  pub settling : (a : SettleAnswer) → settleTold (saidSettle a) ≡ a
 
+-- ---- the readout
 -- the readout of every temperature code
 abbrev pub Readout : Type 0
 Readout = (code : ℤ) → tenthsOf code ≡ tenths code
