@@ -194,7 +194,6 @@ pub record Numbered : Type 0 where
   pub ticks : (a : TickAnswer) → tickTold (saidTick a) ≡ a
   pub settling : (a : SettleAnswer) → settleTold (saidSettle a) ≡ a
 
--- ---- the readout
--- the readout of every temperature code
+-- ---- the readout of every temperature code
 abbrev pub Readout : Type 0
 Readout = (code : ℤ) → tenthsOf code ≡ tenths code
