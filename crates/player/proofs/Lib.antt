@@ -1,0 +1,2 @@
+-- Laws of `player` that belong to no one function.
+pub mod Playing

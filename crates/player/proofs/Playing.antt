@@ -1,0 +1,197 @@
+-- Playing records one after the other: a step goes on, a block ends, and the loop that plays it.
+-- Assumes nothing.
+use Prim.Native.Nat.{ℕ, zero, suc, _+_, _*_, _-_, _≤_, _<_, min}
+use native.Mathlib.Omega.{arith}
+use mathlib.Core.Bool.{Bool, true, false, cond, not}
+use mathlib.Core.List.{List, [], _∷_, _++_, append-nil, append-assoc}
+use mathlib.Core.Path.{_≡_, refl, sym, ap, _∙_, subst}
+use lib.Dec.{leb, ltb}
+use lib.ListN.{length, getD, take, drop}
+use borrow.Author.Tests.{leb-true, leb-false, ltb-true, ltb-false, le-leb}
+use lib.Seq.{length-sets, take-all}
+use Rattle.printout.specs.Line.{lineText, Put, Written}
+use Rattle.printout.specs.declared.Line.{Line}
+use Rattle.printout.proofs.Text.{then, with-room}
+use Rattle.recording.specs.Recording.{known, bodyLength, callOf, itemAt}
+use Rattle.recording.specs.declared.Item.{Item}
+use Rattle.recording.specs.declared.Item.the-variants as item
+use Rattle.player.specs.Player.{stepBy, stepAt, still, Transcript, stopped, before, go-on, playing, transcript, textOf, Plays}
+use Rattle.player.specs.declared.Player.{Player}
+use Rattle.player.specs.declared.Shown.{Shown}
+use Rattle.player.specs.declared.Shown.the-variants as shown
+use Rattle.player.specs.declared.Step.{Step}
+use Rattle.player.specs.declared.Played.{Played}
+
+-- ---- one step
+-- what an item says of the position that it was found at: bytes are left, and a record ends within them
+abbrev pub Within : (at size : ℕ) → Item → Type 0
+Within at size (item.Call kind c next) = (at < next) × (next ≤ size)
+Within at size (item.Unknown kind) = at < size
+Within at size (item.Short kind) = at < size
+Within at size item.End = Unit {0}
+
+module _ (bytes : List ℕ) (at : ℕ) where
+  abbrev kind : ℕ
+  kind = getD bytes at 0
+
+  abbrev short : Bool
+  short = ltb (length bytes - (at + 1)) (bodyLength kind)
+
+  pub item-within : Within at (length bytes) (itemAt bytes at)
+  unfolding itemAt
+  item-within = go (leb (length bytes) at) refl (known kind) short refl
+    where
+      go : (a : Bool) → leb (length bytes) at ≡ a → (b c : Bool) → short ≡ c
+          → Within at (length bytes)
+          (cond a item.End
+          (cond (not b) (item.Unknown kind)
+          (cond c (item.Short kind) (item.Call kind (callOf kind (drop (at + 1) bytes)) (at + 1 + bodyLength kind)))))
+      go true p b c q = tt
+      go false p false c q = leb-false (length bytes) at p
+      go false p true true q = leb-false (length bytes) at p
+      go false p true false q =
+          (omega arith, omega (arith, leb-false (length bytes) at p, ltb-false (length bytes - (at + 1)) (bodyLength kind) q))
+
+-- a step with a line goes on within the bytes; one without leaves the player
+abbrev pub Onward : Player → (at size : ℕ) → Player → Shown → Type 0
+Onward p at size q (shown.Line l next) = (at < next) × (next ≤ size)
+Onward p at size q shown.Nothing = q ≡ p
+
+pub onward : (last : Bool) (p : Player) (bytes : List ℕ) (at : ℕ)
+    → Onward p at (length bytes) (stepAt last p bytes at .player) (stepAt last p bytes at .shown)
+unfolding stepAt
+onward last p bytes at = go (p .over) (itemAt bytes at) (item-within bytes at)
+  where
+    by : (i : Item) → Within at (length bytes) i
+        → Onward p at (length bytes) (stepBy last p (length bytes) i .player) (stepBy last p (length bytes) i .shown)
+    by (item.Call kind c next) w = w
+    by (item.Unknown kind) w = (w, omega arith)
+    by (item.Short kind) w = cut last w
+      where
+        cut : (b : Bool) → at < length bytes → Onward p at (length bytes) (stepBy b p (length bytes) (item.Short kind) .player) (stepBy b p (length bytes) (item.Short kind) .shown)
+        cut true w = (w, omega arith)
+        cut false w = refl
+    by item.End w = refl
+
+    go : (b : Bool) (i : Item) → Within at (length bytes) i
+        → Onward p at (length bytes) (cond b (still p) (stepBy last p (length bytes) i) .player) (cond b (still p) (stepBy last p (length bytes) i) .shown)
+    go true i w = refl
+    go false i w = by i w
+
+-- where no byte is left there is no line
+pub at-the-end : (last : Bool) (p : Player) (bytes : List ℕ) (at : ℕ) → length bytes ≤ at → stepAt last p bytes at ≡ still p
+unfolding stepAt itemAt
+at-the-end last p bytes at h = rw (le-leb (length bytes) at h) (go (p .over))
+  where
+    go : (b : Bool) → cond b (still p) (still p) ≡ still p
+    go true = refl
+    go false = refl
+
+-- ---- a block
+-- any number of records that is enough plays the same
+pub enough : (n m : ℕ) (last : Bool) (p : Player) (bytes : List ℕ) (at : ℕ) → length bytes ≤ at + n → length bytes ≤ at + m
+    → playing n last p bytes at ≡ playing m last p bytes at
+unfolding playing
+enough zero zero last p bytes at h k = refl
+enough zero (suc m) last p bytes at h k = rw (at-the-end last p bytes at (omega arith))
+enough (suc n) zero last p bytes at h k = rw (at-the-end last p bytes at (omega arith))
+enough (suc n) (suc m) last p bytes at h k =
+    go (stepAt last p bytes at .shown) (onward last p bytes at) (λ next. enough n m last (stepAt last p bytes at .player) bytes next)
+  where
+    go : (s : Shown) → Onward p at (length bytes) (stepAt last p bytes at .player) s
+        → ((next : ℕ) → length bytes ≤ next + n → length bytes ≤ next + m
+            → playing n last (stepAt last p bytes at .player) bytes next ≡ playing m last (stepAt last p bytes at .player) bytes next)
+        → go-on s (stopped p at) (playing n last (stepAt last p bytes at .player) bytes)
+        ≡ go-on s (stopped p at) (playing m last (stepAt last p bytes at .player) bytes)
+    go (shown.Line l next) w rest = ap (before (l ∷ [])) (rest next (omega arith) (omega arith))
+    go shown.Nothing w rest = refl
+
+-- all records from a position on
+abbrev pub from : (last : Bool) → Player → List ℕ → (at : ℕ) → Transcript
+from last p bytes at = playing (length bytes - at) last p bytes at
+
+pub from-is : (last : Bool) (p : Player) (bytes : List ℕ) (at : ℕ)
+    → from last p bytes at ≡ go-on (stepAt last p bytes at .shown) (stopped p at) (from last (stepAt last p bytes at .player) bytes)
+unfolding playing
+from-is last p bytes at =
+    enough (length bytes - at) (suc (length bytes)) last p bytes at (omega arith) (omega arith) ∙ go (stepAt last p bytes at .shown)
+  where
+    go : (s : Shown)
+        → go-on s (stopped p at) (playing (length bytes) last (stepAt last p bytes at .player) bytes)
+        ≡ go-on s (stopped p at) (from last (stepAt last p bytes at .player) bytes)
+    go (shown.Line l next) =
+        ap (before (l ∷ [])) (enough (length bytes) (length bytes - next) last (stepAt last p bytes at .player) bytes next (omega arith) (omega arith))
+    go shown.Nothing = refl
+
+-- ---- the loop
+pub text-append : (ls : List Line) (l : Line) → textOf (ls ++ l ∷ []) ≡ textOf ls ++ lineText l
+text-append [] l = append-nil (lineText l)
+text-append (k ∷ ls) l = rw (text-append ls l) (sym (append-assoc (lineText k) (textOf ls) (lineText l)))
+
+pub before-before : (ls : List Line) (l : Line) (t : Transcript) → before ls (before (l ∷ []) t) ≡ before (ls ++ l ∷ []) t
+before-before ls l t = ap (λ (ks : List Line). record { lines = ks; used = t .used; player = t .player }) (sym (append-assoc ls (l ∷ []) (t .lines)))
+
+-- some lines are written, and the rest is to be played from a position on
+pub record Playing (p₀ : Player) (block : List ℕ) (last : Bool) (out₀ : List ℕ) (p : Player) (out : List ℕ) (at written : ℕ) : Type 0 where
+  pub lines : List Line
+  pub within : at ≤ length block
+  pub room : written ≤ at * 30
+  pub sized : length out ≡ length out₀
+  pub put : Put (textOf lines) out₀ 0 out written
+  pub rest : transcript last p₀ block ≡ before lines (from last p block at)
+
+pub none : (p : Player) (block : List ℕ) (last : Bool) (out : List ℕ) → Playing p block last out p out 0 0
+none p block last out =
+    record {
+      lines = [];
+      within = omega arith;
+      room = omega arith;
+      sized = refl;
+      put = record { bytes = refl; ends = refl };
+      rest = enough (length block) (length block - 0) last p block 0 (omega arith) (omega arith);
+    }
+
+module _ (p₀ : Player) (block : List ℕ) (last : Bool) (out₀ : List ℕ) (p : Player) (out : List ℕ) (at written : ℕ)
+    (h : Playing p₀ block last out₀ p out at written) (s : Step) (is : s ≡ stepAt last p block at) where
+  on : Onward p at (length block) (s .player) (s .shown)
+  on = rw is (onward last p block at)
+
+  step-is : from last p block at ≡ go-on (s .shown) (stopped p at) (from last (s .player) block)
+  step-is = rw is (from-is last p block at)
+
+  pub ahead : {l : Line} {next : ℕ} → s .shown ≡ shown.Line l next → (at < next) × (next ≤ length block)
+  ahead e = rw e at on
+
+  pub more : {l : Line} {next : ℕ} {out′ : List ℕ} {written′ : ℕ} → s .shown ≡ shown.Line l next
+      → Written (lineText l) out written out′ written′ → length block * 30 ≤ length out₀
+      → Playing p₀ block last out₀ (s .player) out′ next written′
+  more {l} {next} {out′} {written′} e w fits =
+      let a = ahead e in
+      let put : Put (lineText l) out written out′ written′ = with-room (omega (arith, h .room, h .sized)) w in
+      record {
+        lines = h .lines ++ l ∷ [];
+        within = a .1;
+        room = omega (arith, h .room, w .short);
+        sized = ap length (put .bytes) ∙ length-sets out written (lineText l) ∙ h .sized;
+        put = rw (text-append (h .lines) l) (then (h .put) put);
+        rest = h .rest ∙ ap (before (h .lines)) (rw e at step-is) ∙ before-before (h .lines) l (from last (s .player) block next);
+      }
+
+  pub whole : s .shown ≡ shown.Nothing
+      → Plays (transcript last p₀ block) out₀ out (record { player = s .player; used = at; written = written })
+  whole e =
+      let done : transcript last p₀ block ≡ before (h .lines) (stopped p at) = h .rest ∙ ap (before (h .lines)) (rw e at step-is) in
+      rw (done, append-nil (h .lines))
+      (record { player = rw e at on; used = refl; written = omega (arith, h .put .ends); bytes = h .put .bytes })
+
+-- ---- as much of a block as there is room for
+pub take-least : (s : List ℕ) (n : ℕ) → take (min (length s) n) s ≡ take n s
+take-least s n = go (leb (length s) n) refl
+  where
+    go : (b : Bool) → leb (length s) n ≡ b → take (min (length s) n) s ≡ take n s
+    go true e =
+        let all : length s ≤ n = leb-true (length s) n e in
+        take-all (min (length s) n) s (omega arith) ∙ sym (take-all n s all)
+    go false e =
+        let some : min (length s) n ≡ n = omega (arith, leb-false (length s) n e) in
+        rw some

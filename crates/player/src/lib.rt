@@ -1,0 +1,165 @@
+// Plays a bench recording on a module: one record at a time, or a block of them with their lines as text.
+ghost use mathlib.Core.Path.{_≡_};
+ghost use mathlib.Core.Bool.{false};
+ghost use Prim.Native.Nat.{_*_, _/_, _≤_, min};
+ghost use lib.ListN.{length};
+ghost use Rattle.player.specs.Player.{player, shows, played, ended, still, stepAt, transcript, transcriptWithin, Plays};
+use calls::Call;
+use printout::LONGEST;
+use printout::Line;
+use reads::alarm_line;
+use recording::CUT_SHORT;
+use recording::Item;
+use recording::UNKNOWN_KIND;
+use recording::item_at;
+use refusal::refusal_of;
+use xenpak::Module;
+
+mod refusal;
+
+pub struct Player {
+    // The module that is played on.
+    pub unit: Module,
+    // How many records it played.
+    pub index: u64,
+    // A record was refused by the recording, with 9 or 10: it was the last.
+    pub over: bool,
+}
+
+// A record's line, and the position after the record; nothing where no record is played.
+pub enum Shown {
+    Line(Line, usize),
+    Nothing,
+}
+
+pub struct Step {
+    pub player: Player,
+    pub shown: Shown,
+}
+
+// A block played: how many of its bytes are used, and how many characters of lines are written.
+pub struct Played {
+    pub player: Player,
+    pub used: usize,
+    pub written: usize,
+}
+
+fn least(a: usize, b: usize) -> usize
+    ensures { λ r. ⌜ r ≡ min a b ⌝ }
+{
+    if a < b { a } else { b }
+}
+
+impl Player {
+    // A player of this module, before the first record.
+    pub fn of(unit: Module) -> Player
+        ensures { λ r. ⌜ r ≡ player unit 0 false ⌝ }
+    {
+        Player {
+            unit: unit,
+            index: 0,
+            over: false,
+        }
+    }
+
+    // A record's line shows the module as it is now, and the index counts on.
+    fn shows(mut self, kind: u8, refusal: u8, next: usize) -> Step
+        ensures { λ r. ⌜ r ≡ shows self kind refusal next ⌝ }
+    {
+        let line = Line {
+            index: self.index,
+            kind: kind,
+            refusal: refusal,
+            alarm: alarm_line(self.unit),
+        };
+        self.index = std::num::wrapping_add_u64(self.index, 1);
+        Step {
+            player: self,
+            shown: Shown::Line(line, next),
+        }
+    }
+
+    // A call is made, refused or not.
+    fn played(mut self, kind: u8, call: Call, next: usize) -> Step
+        ensures { λ r. ⌜ r ≡ played self kind call next ⌝ }
+    {
+        let outcome = call.on(self.unit);
+        let unit = outcome.next;
+        let answer = outcome.answer;
+        self.unit = unit;
+        self.shows(kind, refusal_of(answer), next)
+    }
+
+    // A record that the recording refuses: the module stays, and nothing is played after it, so all bytes are used.
+    fn ended(mut self, kind: u8, number: u8, size: usize) -> Step
+        ensures { λ r. ⌜ r ≡ ended self kind number size ⌝ }
+    {
+        self.over = true;
+        self.shows(kind, number, size)
+    }
+
+    fn still(self) -> Step
+        ensures { λ r. ⌜ r ≡ still self ⌝ }
+    {
+        Step {
+            player: self,
+            shown: Shown::Nothing,
+        }
+    }
+
+    // Plays the record at a position; `last` says that no bytes follow these, so that a body cut short is refused.
+    pub fn step(self, bytes: &[u8], at: usize, last: bool) -> Step
+        ensures { λ r. ⌜ r ≡ stepAt last self (now (bytes .entry)) at ⌝ }
+    {
+        if self.over {
+            return self.still();
+        }
+        let item = item_at(bytes, at);
+        match item {
+            Item::Call(kind, call, next) => self.played(kind, call, next),
+            Item::Unknown(kind) => self.ended(kind, UNKNOWN_KIND, bytes.len()),
+            Item::Short(kind) => if last {
+                self.ended(kind, CUT_SHORT, bytes.len())
+            } else {
+                self.still()
+            },
+            Item::End => self.still(),
+        }
+    }
+
+    // Plays the whole records of a block and writes their lines.
+    fn play_all(mut self, block: &[u8], last: bool, out: &mut [u8]) -> Played
+        requires { ⌜ length (now block) * 30 ≤ length (now out) ⌝ }
+        ensures { λ r. ⌜ Plays (transcript last self (now (block .entry))) (now (out .entry)) (now (out .exit)) r ⌝ }
+    {
+        let mut at = 0;
+        let mut written = 0;
+        loop {
+            let step = self.step(block, at, last);
+            self = step.player;
+            let shown = step.shown;
+            match shown {
+                Shown::Line(line, next) => {
+                    written = line.write(out, written);
+                    at = next;
+                }
+                Shown::Nothing => {
+                    return Played {
+                        player: self,
+                        used: at,
+                        written: written,
+                    };
+                }
+            }
+        }
+    }
+
+    // Plays the whole records of a block, as far as there is surely room for their lines, and writes these.
+    pub fn play(self, block: &[u8], last: bool, out: &mut [u8]) -> Played
+        ensures { λ r. ⌜ Plays (transcriptWithin (length (now (out .entry)) / 30) last self (now (block .entry))) (now (out .entry)) (now (out .exit)) r ⌝ }
+    {
+        let room = out.len() / LONGEST;
+        let end = least(block.len(), room);
+        self.play_all(&block[..end], last & (block.len() <= room), out)
+    }
+}

@@ -1,0 +1,2 @@
+-- Laws of `printout` that belong to no one function.
+pub mod Text

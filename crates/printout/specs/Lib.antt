@@ -1,0 +1,2 @@
+-- What the contracts of `printout` cite.
+pub mod Line

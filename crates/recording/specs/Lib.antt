@@ -1,0 +1,2 @@
+-- What the contracts of `recording` cite.
+pub mod Recording
