@@ -2,20 +2,21 @@
 -- Assumes nothing.
 use Prim.Native.Nat.{ℕ, zero, suc, _+_, _*_, _-_, _≤_, _<_, min}
 use native.Mathlib.Omega.{arith}
-use mathlib.Core.Bool.{Bool, true, false, cond, not}
+use mathlib.Core.Bool.{Bool, true, false, cond, not, _&&_}
 use mathlib.Core.List.{List, [], _∷_, _++_, append-nil, append-assoc}
 use mathlib.Core.Path.{_≡_, refl, sym, ap, _∙_, subst}
-use lib.Dec.{leb, ltb}
+use lib.Dec.{eqb, leb, ltb}
 use lib.ListN.{length, getD, take, drop}
 use borrow.Author.Tests.{leb-true, leb-false, ltb-true, ltb-false, le-leb}
 use lib.Seq.{length-sets, take-all}
+use Rattle.io.proofs.Counting.{counts}
 use Rattle.printout.specs.Line.{lineText, Put, Written}
 use Rattle.printout.specs.declared.Line.{Line}
 use Rattle.printout.proofs.Text.{then, with-room}
 use Rattle.recording.specs.Recording.{known, bodyLength, callOf, itemAt}
 use Rattle.recording.specs.declared.Item.{Item}
 use Rattle.recording.specs.declared.Item.the-variants as item
-use Rattle.player.specs.Player.{stepBy, stepAt, still, Transcript, stopped, before, go-on, playing, transcript, textOf, Plays}
+use Rattle.player.specs.Player.{stepBy, stepAt, still, Transcript, stopped, before, go-on, playing, transcript, transcriptWithin, textOf, Plays}
 use Rattle.player.specs.declared.Player.{Player}
 use Rattle.player.specs.declared.Shown.{Shown}
 use Rattle.player.specs.declared.Shown.the-variants as shown
@@ -23,12 +24,21 @@ use Rattle.player.specs.declared.Step.{Step}
 use Rattle.player.specs.declared.Played.{Played}
 
 -- ---- one step
--- what an item says of the position that it was found at: bytes are left, and a record ends within them
+-- a body has at most 8 bytes
+body-length : (kind : ℕ) → bodyLength kind ≤ 8
+body-length kind = of (eqb kind 0x03) (omega arith) (of (eqb kind 0x05) (omega arith) (of (eqb kind 0x07) (omega arith) (of (eqb kind 0x08) (omega arith) (omega arith))))
+  where
+    of : (b : Bool) {x y : ℕ} → x ≤ 8 → y ≤ 8 → cond b x y ≤ 8
+    of true h k = h
+    of false h k = k
+
+-- what an item says of the position that it was found at: bytes are left or none, a record ends within them, and of one that
+-- does not at most 8 are there
 abbrev pub Within : (at size : ℕ) → Item → Type 0
 Within at size (item.Call kind c next) = (at < next) × (next ≤ size)
 Within at size (item.Unknown kind) = at < size
-Within at size (item.Short kind) = at < size
-Within at size item.End = Unit {0}
+Within at size (item.Short kind) = (at < size) × (size ≤ at + 8)
+Within at size item.End = size ≤ at
 
 module _ (bytes : List ℕ) (at : ℕ) where
   abbrev kind : ℕ
@@ -46,37 +56,39 @@ module _ (bytes : List ℕ) (at : ℕ) where
           (cond a item.End
           (cond (not b) (item.Unknown kind)
           (cond c (item.Short kind) (item.Call kind (callOf kind (drop (at + 1) bytes)) (at + 1 + bodyLength kind)))))
-      go true p b c q = tt
+      go true p b c q = leb-true (length bytes) at p
       go false p false c q = leb-false (length bytes) at p
-      go false p true true q = leb-false (length bytes) at p
+      go false p true true q =
+          (leb-false (length bytes) at p, omega (arith, ltb-true (length bytes - (at + 1)) (bodyLength kind) q, body-length kind))
       go false p true false q =
           (omega arith, omega (arith, leb-false (length bytes) at p, ltb-false (length bytes - (at + 1)) (bodyLength kind) q))
 
--- a step with a line goes on within the bytes; one without leaves the player
+-- a step with a line goes on within the bytes; one without leaves the player, and if the play goes on at most 8 bytes are left
 abbrev pub Onward : Player → (at size : ℕ) → Player → Shown → Type 0
 Onward p at size q (shown.Line l next) = (at < next) × (next ≤ size)
-Onward p at size q shown.Nothing = q ≡ p
+Onward p at size q shown.Nothing = (q ≡ p) × (p .over ≡ false → size ≤ at + 8)
 
 pub onward : (last : Bool) (p : Player) (bytes : List ℕ) (at : ℕ)
     → Onward p at (length bytes) (stepAt last p bytes at .player) (stepAt last p bytes at .shown)
 unfolding stepAt
-onward last p bytes at = go (p .over) (itemAt bytes at) (item-within bytes at)
+onward last p bytes at = go (p .over) refl (itemAt bytes at) (item-within bytes at)
   where
+    cut : (b : Bool) (kind : ℕ) → Within at (length bytes) (item.Short kind)
+        → Onward p at (length bytes) (stepBy b p (length bytes) (item.Short kind) .player) (stepBy b p (length bytes) (item.Short kind) .shown)
+    cut true kind w = (w .0, omega arith)
+    cut false kind w = (refl, λ f. w .1)
+
     by : (i : Item) → Within at (length bytes) i
         → Onward p at (length bytes) (stepBy last p (length bytes) i .player) (stepBy last p (length bytes) i .shown)
     by (item.Call kind c next) w = w
     by (item.Unknown kind) w = (w, omega arith)
-    by (item.Short kind) w = cut last w
-      where
-        cut : (b : Bool) → at < length bytes → Onward p at (length bytes) (stepBy b p (length bytes) (item.Short kind) .player) (stepBy b p (length bytes) (item.Short kind) .shown)
-        cut true w = (w, omega arith)
-        cut false w = refl
-    by item.End w = refl
+    by (item.Short kind) w = cut last kind w
+    by item.End w = (refl, λ f. omega arith)
 
-    go : (b : Bool) (i : Item) → Within at (length bytes) i
+    go : (b : Bool) → p .over ≡ b → (i : Item) → Within at (length bytes) i
         → Onward p at (length bytes) (cond b (still p) (stepBy last p (length bytes) i) .player) (cond b (still p) (stepBy last p (length bytes) i) .shown)
-    go true i w = refl
-    go false i w = by i w
+    go true e i w = (refl, λ f. let z : true ≡ false = sym e ∙ f in let n : _≡_ {A = ℕ} 0 1 = cc in absurd (omega arith))
+    go false e i w = by i w
 
 -- where no byte is left there is no line
 pub at-the-end : (last : Bool) (p : Player) (bytes : List ℕ) (at : ℕ) → length bytes ≤ at → stepAt last p bytes at ≡ still p
@@ -100,11 +112,27 @@ enough (suc n) (suc m) last p bytes at h k =
   where
     go : (s : Shown) → Onward p at (length bytes) (stepAt last p bytes at .player) s
         → ((next : ℕ) → length bytes ≤ next + n → length bytes ≤ next + m
-            → playing n last (stepAt last p bytes at .player) bytes next ≡ playing m last (stepAt last p bytes at .player) bytes next)
+        → playing n last (stepAt last p bytes at .player) bytes next ≡ playing m last (stepAt last p bytes at .player) bytes next)
         → go-on s (stopped p at) (playing n last (stepAt last p bytes at .player) bytes)
         ≡ go-on s (stopped p at) (playing m last (stepAt last p bytes at .player) bytes)
     go (shown.Line l next) w rest = ap (before (l ∷ [])) (rest next (omega arith) (omega arith))
     go shown.Nothing w rest = refl
+
+-- if the play goes on, at most 8 bytes are left
+pub left-over : (n : ℕ) (last : Bool) (p : Player) (bytes : List ℕ) (at : ℕ) → length bytes ≤ at + n
+    → playing n last p bytes at .player .over ≡ false → length bytes ≤ playing n last p bytes at .used + 8
+unfolding playing
+left-over zero last p bytes at h f = omega arith
+left-over (suc n) last p bytes at h f =
+    go (stepAt last p bytes at .shown) (onward last p bytes at) (λ next. left-over n last (stepAt last p bytes at .player) bytes next) f
+  where
+    go : (s : Shown) → Onward p at (length bytes) (stepAt last p bytes at .player) s
+        → ((next : ℕ) → length bytes ≤ next + n → playing n last (stepAt last p bytes at .player) bytes next .player .over ≡ false
+        → length bytes ≤ playing n last (stepAt last p bytes at .player) bytes next .used + 8)
+        → go-on s (stopped p at) (playing n last (stepAt last p bytes at .player) bytes) .player .over ≡ false
+        → length bytes ≤ go-on s (stopped p at) (playing n last (stepAt last p bytes at .player) bytes) .used + 8
+    go (shown.Line l next) w rest f = rest next (omega arith) f
+    go shown.Nothing w rest f = w .1 f
 
 -- all records from a position on
 abbrev pub from : (last : Bool) → Player → List ℕ → (at : ℕ) → Transcript
@@ -177,12 +205,18 @@ module _ (p₀ : Player) (block : List ℕ) (last : Bool) (out₀ : List ℕ) (p
         rest = h .rest ∙ ap (before (h .lines)) (rw e at step-is) ∙ before-before (h .lines) l (from last (s .player) block next);
       }
 
-  pub whole : s .shown ≡ shown.Nothing
+  pub whole : s .shown ≡ shown.Nothing → length block * 30 ≤ length out₀
       → Plays (transcript last p₀ block) out₀ out (record { player = s .player; used = at; written = written })
-  whole e =
+  whole e fits =
       let done : transcript last p₀ block ≡ before (h .lines) (stopped p at) = h .rest ∙ ap (before (h .lines)) (rw e at step-is) in
       rw (done, append-nil (h .lines))
-      (record { player = rw e at on; used = refl; written = omega (arith, h .put .ends); bytes = h .put .bytes })
+      (record {
+        player = (rw e at on) .0;
+        used = refl;
+        written = omega (arith, h .put .ends);
+        bytes = h .put .bytes;
+        fits = counts written out (omega (arith, h .room, h .within, h .sized));
+      })
 
 -- ---- as much of a block as there is room for
 pub take-least : (s : List ℕ) (n : ℕ) → take (min (length s) n) s ≡ take n s
@@ -195,3 +229,8 @@ take-least s n = go (leb (length s) n) refl
     go false e =
         let some : min (length s) n ≡ n = omega (arith, leb-false (length s) n e) in
         rw some
+
+-- where there is room for all of it, and the play goes on, at most 8 bytes are left
+pub few-left : (room : ℕ) (last : Bool) (p : Player) (block : List ℕ) → length block ≤ room
+    → transcriptWithin room last p block .player .over ≡ false → length block ≤ transcriptWithin room last p block .used + 8
+few-left room last p block h = rw (take-all room block h) (left-over (length block) (last && leb (length block) room) p block 0 (omega arith))

@@ -5,7 +5,7 @@ use mathlib.Core.Bool.{Bool, true, cond, _&&_}
 use mathlib.Core.List.{List, [], _∷_, _++_}
 use mathlib.Core.Path.{_≡_}
 use lib.Dec.{leb}
-use lib.ListN.{length, take}
+use lib.ListN.{length, take, drop}
 use lib.Seq.{sets}
 use Rattle.xenpak.specs.declared.Module.{Module}
 use Rattle.reads.specs.Reads.{lineOf}
@@ -14,6 +14,7 @@ use Rattle.calls.specs.declared.Call.{Call}
 use Rattle.recording.specs.Recording.{itemAt}
 use Rattle.recording.specs.declared.Item.{Item}
 use Rattle.recording.specs.declared.Item.the-variants as item
+use Rattle.io.specs.Counts.{Counts}
 use Rattle.printout.specs.Line.{lineText}
 use Rattle.printout.specs.declared.Line.{Line}
 use Rattle.player.specs.declared.Player.{Player}
@@ -102,3 +103,10 @@ pub record Plays (t : Transcript) (before after : List ℕ) (r : Played) : Type 
   pub used : r .used ≡ t .used
   pub written : r .written ≡ length (textOf (t .lines))
   pub bytes : after ≡ sets before 0 (textOf (t .lines))
+  pub fits : Counts (r .written) after
+
+-- ---- what is left of a block
+-- the bytes from a position to the block's end are at the front of the buffer, so many of them
+pub record Kept (from end : ℕ) (before after : List ℕ) (count : ℕ) : Type 0 where
+  pub bytes : take count after ≡ drop from (take end before)
+  pub counted : count ≡ length (drop from (take end before))

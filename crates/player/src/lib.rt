@@ -3,7 +3,7 @@ ghost use mathlib.Core.Path.{_≡_};
 ghost use mathlib.Core.Bool.{false};
 ghost use Prim.Native.Nat.{_*_, _/_, _≤_, min};
 ghost use lib.ListN.{length};
-ghost use Rattle.player.specs.Player.{player, shows, played, ended, still, stepAt, transcript, transcriptWithin, Plays};
+ghost use Rattle.player.specs.Player.{player, shows, played, ended, still, stepAt, transcript, transcriptWithin, Plays, Kept};
 use calls::Call;
 use printout::LONGEST;
 use printout::Line;
@@ -162,4 +162,19 @@ impl Player {
         let end = least(block.len(), room);
         self.play_all(&block[..end], last & (block.len() <= room), out)
     }
+}
+
+// What is left of a block, from a position to its end, goes to the front of its buffer; how many bytes that is.
+pub fn keep(buffer: &mut [u8], from: usize, end: usize) -> usize
+    ensures { λ r. ⌜ Kept from end (now (buffer .entry)) (now (buffer .exit)) r ⌝ }
+{
+    let to = least(buffer.len(), end);
+    let mut i = from;
+    let mut n = 0;
+    while i < to {
+        buffer[n] = buffer[i];
+        i += 1;
+        n += 1;
+    }
+    n
 }

@@ -28,4 +28,4 @@ play-all-spec =
     (λ c. more _ _ _ _ _ _ _ _ (c .before .before .before .before .before .before .before .before .before .loop .inv) _ (c .before .before .before .before .before .before .before .before .step .ensures) (c .before .before .before .before .before .shown .given .1) (c .before .before .write .ensures) (c .before .before .before .before .before .before .before .before .before .before .before .before .pre))
     (λ c. search needs)
     (λ c. c .before .before .before .before .loop .inv .sized)
-    (λ c. whole _ _ _ _ _ _ _ _ (c .before .before .before .before .loop .inv) _ (c .before .before .before .step .ensures) (c .enum-told .given .1)))
+    (λ c. whole _ _ _ _ _ _ _ _ (c .before .before .before .before .loop .inv) _ (c .before .before .before .step .ensures) (c .enum-told .given .1) (c .before .before .before .before .before .before .before .pre)))

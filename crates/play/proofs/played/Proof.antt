@@ -1,0 +1,26 @@
+-- `play::played` meets its contract: there is room for all lines of the block, so that few bytes of it are left.
+-- Assumes nothing.
+use mathlib.Core.Bool.{not, _&&_}
+use mathlib.Core.Path.{sym}
+use lib.Seq.{length-take-le}
+use borrow.Author.Needs.{needs}
+use Rattle.play.proofs.Held.{held}
+use Rattle.play.proofs.played.Statement.{statement}
+use Rattle.play.proofs.played.Tie as tie
+
+pub played-spec : {M : Type 1} → statement M
+played-spec =
+    tie.close
+    (tie.spec
+    (λ c. search needs)
+    (λ c. sym (length-take-le _ _ (c .before .before .before .pre .0)))
+    (λ c κs. search needs)
+    (λ c. search needs)
+    (λ c. search needs)
+    (λ c κs. search needs)
+    (λ c. search needs)
+    (λ c κs. search needs)
+    (λ c κs. search needs)
+    (λ c. search needs)
+    (λ c. search needs)
+    (λ c. held (c .before .before .before .before .before .before .before .before .before .before .before .before .before .before .before .before .args .player) _ _ _ _ _ _ (c .before .before .before .before .before .before .before .before .before .before .before .before .before .before .before .before .args .last) (c .before .before .before .before .before .before .write-all .result && not (c .before .before .before .before .before .before .before .before .before .before .before .before .before .before .before .before .args .last)) _ (c .before .before .before .before .before .before .before .before .before .before .before .before .before .before .before .before .pre .0) (c .before .before .before .before .before .before .before .before .before .before .before .before .before .before .before .before .pre .1) (c .before .before .before .before .before .before .before .before .before .before .before .play .ensures) (c .before .before .before .keep .ensures)))

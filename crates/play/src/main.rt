@@ -1,0 +1,96 @@
+// Plays a bench recording from standard input on the blank module, and prints a line for each record.
+ghost use mathlib.Core.Path.{_≡_};
+ghost use mathlib.Core.Bool.{true};
+ghost use Prim.Native.Nat.{_/_, _≤_, _<_};
+ghost use lib.ListN.{length};
+use creation::make;
+use libc::STDERR_FILENO;
+use libc::STDIN_FILENO;
+use libc::STDOUT_FILENO;
+use player::Player;
+use player::keep;
+use xenpak::Module;
+
+// How many bytes of a recording are played at a time, and room for as many of the longest lines.
+const BLOCK: usize = 8192;
+
+const ROOM: usize = 245_760;
+
+// After a block: how many bytes of a record that is not whole yet are held at the front of the input, and whether to go on.
+struct Progress {
+    player: Player,
+    held: usize,
+    more: bool,
+}
+
+// Port 0, all bytes zero, off.
+fn blank() -> Module {
+    let image = [0; 256];
+    let thresholds = [0; 40];
+    let outcome = make(0, &image, &thresholds);
+    outcome.next
+}
+
+fn tell(text: &[u8]) {
+    io::write_all(STDERR_FILENO, text);
+}
+
+// Plays the input up to its end, and prints the lines.
+fn played(player: Player, input: &mut [u8], end: usize, last: bool, output: &mut [u8]) -> Progress
+    requires { ⌜ end ≤ length (now input) ⌝ }
+    requires { ⌜ length (now input) ≤ length (now output) / 30 ⌝ }
+    ensures { λ r. ⌜ (r .more ≡ true → r .held ≤ 8) ⌝ }
+{
+    let block = player.play(&input[..end], last, output);
+    let next = block.player;
+    let written = block.written;
+    let used = block.used;
+    let printed = io::write_all(STDOUT_FILENO, &output[..written]);
+    if !printed {
+        tell(b"play: standard output cannot be written\n");
+    }
+    let held = keep(input, used, end);
+    Progress {
+        player: next,
+        held: held,
+        more: printed & !last & !next.over,
+    }
+}
+
+// Reads behind what is held, and plays that. At the end of the input nothing follows; an input that fails is told.
+fn turn(player: Player, held: usize, input: &mut [u8], output: &mut [u8]) -> Progress
+    requires { ⌜ held ≤ 8 ⌝ }
+    requires { ⌜ 8 < length (now input) ⌝ }
+    requires { ⌜ length (now input) ≤ length (now output) / 30 ⌝ }
+    ensures { λ r. ⌜ (r .more ≡ true → r .held ≤ 8) ⌝ }
+{
+    let got = libc::read(STDIN_FILENO, &mut input[held..]);
+    if got < 0 {
+        tell(b"play: standard input cannot be read\n");
+        return Progress {
+            player: player,
+            held: held,
+            more: false,
+        };
+    }
+    let count = io::count(got, &input[held..]);
+    played(player, input, held + count, count == 0, output)
+}
+
+// No run uses up the turns: they are there since a proved loop has to end.
+fn main() {
+    let mut input = [0; BLOCK];
+    let mut output = [0; ROOM];
+    let mut player = Player::of(blank());
+    let mut held = 0;
+    let mut turns = u64::MAX;
+    while turns > 0 {
+        let after = turn(player, held, &mut input, &mut output);
+        if !after.more {
+            return;
+        }
+        player = after.player;
+        held = after.held;
+        turns -= 1;
+    }
+}
