@@ -1,3 +1,3 @@
 -- Laws of `recording` that belong to no one function.
-pub mod LastKind
+pub mod KnownKinds
 pub mod Tail

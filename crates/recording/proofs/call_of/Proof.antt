@@ -3,7 +3,7 @@
 use native.Mathlib.Omega.{arith}
 use borrow.Author.Tests.{ne-eqb}
 use Rattle.recording.specs.Recording.{callOf}
-use Rattle.recording.proofs.LastKind.{last-kind}
+use Rattle.recording.proofs.KnownKinds.{last-kind}
 use Rattle.recording.proofs.call_of.Statement.{statement}
 use Rattle.recording.proofs.call_of.Tie as tie
 

@@ -1,0 +1,6 @@
+-- The theorems of `playback`, and the laws that they rest on.
+pub mod Decoding
+pub mod Recordings
+pub mod Columns
+pub mod AsCalls
+pub mod Blocks

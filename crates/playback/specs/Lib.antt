@@ -1,0 +1,3 @@
+-- What a recording is, told a second time, and what is guaranteed of playing one.
+pub mod Format
+pub mod Playback
