@@ -8,6 +8,7 @@ use mathlib.Core.Path.{_≡_, refl, sym, ap, _∙_}
 use lib.ListN.{length, take, drop, length-take, length-drop}
 use lib.Seq.{length-take-le}
 use borrow.Author.Tests.{not-true}
+use Rattle.printout.specs.Line.{longest}
 use Rattle.player.specs.Player.{transcriptWithin, Plays, Kept}
 use Rattle.player.specs.declared.Player.{Player}
 use Rattle.player.specs.declared.Played.{Played}
@@ -18,10 +19,10 @@ second true b e = e
 second false b e = absurd (let n : _≡_ {A = ℕ} 0 1 = cc in omega arith)
 
 pub held : (p : Player) (input kept out out′ : List ℕ) (end n : ℕ) (last others : Bool) (r : Played) → end ≤ length input
-    → length input ≤ length out / 30 → Plays (transcriptWithin (length out / 30) last p (take end input)) out out′ r
+    → length input ≤ length out / longest → Plays (transcriptWithin (length out / longest) last p (take end input)) out out′ r
     → Kept (r .used) end input kept n → (others && not (r .player .over)) ≡ true → n ≤ 8
 held p input kept out out′ end n last others r within room plays kept-is more =
     let size : length (take end input) ≡ end = length-take-le end input within in
     let on : r .player .over ≡ false = not-true (r .player .over) (second others (not (r .player .over)) more) in
-    let few = few-left (length out / 30) last p (take end input) (omega arith) (sym (ap (λ (q : Player). q .over) (plays .player)) ∙ on) in
+    let few = few-left (length out / longest) last p (take end input) (omega arith) (sym (ap (λ (q : Player). q .over) (plays .player)) ∙ on) in
     omega (arith, kept-is .counted, length-drop (r .used) (take end input), plays .used)

@@ -3,18 +3,20 @@ ghost use mathlib.Core.Path.{_≡_};
 ghost use mathlib.Core.Bool.{true};
 ghost use Prim.Native.Nat.{_/_, _≤_, _<_};
 ghost use lib.ListN.{length};
+ghost use Rattle.printout.specs.Line.{longest};
 use creation::make;
 use libc::STDERR_FILENO;
 use libc::STDIN_FILENO;
 use libc::STDOUT_FILENO;
 use player::Player;
 use player::keep;
+use printout::LONGEST;
 use xenpak::Module;
 
 // How many bytes of a recording are played at a time, and room for as many of the longest lines.
 const BLOCK: usize = 8192;
 
-const ROOM: usize = 245_760;
+const ROOM: usize = BLOCK * LONGEST;
 
 // After a block: how many bytes of a record that is not whole yet are held at the front of the input, and whether to go on.
 struct Progress {
@@ -38,7 +40,7 @@ fn tell(text: &[u8]) {
 // Plays the input up to its end, and prints the lines.
 fn played(player: Player, input: &mut [u8], end: usize, last: bool, output: &mut [u8]) -> Progress
     requires { ⌜ end ≤ length (now input) ⌝ }
-    requires { ⌜ length (now input) ≤ length (now output) / 30 ⌝ }
+    requires { ⌜ length (now input) ≤ length (now output) / longest ⌝ }
     ensures { λ r. ⌜ (r .more ≡ true → r .held ≤ 8) ⌝ }
 {
     let block = player.play(&input[..end], last, output);
@@ -61,7 +63,7 @@ fn played(player: Player, input: &mut [u8], end: usize, last: bool, output: &mut
 fn turn(player: Player, held: usize, input: &mut [u8], output: &mut [u8]) -> Progress
     requires { ⌜ held ≤ 8 ⌝ }
     requires { ⌜ 8 < length (now input) ⌝ }
-    requires { ⌜ length (now input) ≤ length (now output) / 30 ⌝ }
+    requires { ⌜ length (now input) ≤ length (now output) / longest ⌝ }
     ensures { λ r. ⌜ (r .more ≡ true → r .held ≤ 8) ⌝ }
 {
     let got = libc::read(STDIN_FILENO, &mut input[held..]);

@@ -17,7 +17,7 @@ use Rattle.creation.specs.Creation.{make}
 use Rattle.printout.specs.declared.Line.{Line}
 use Rattle.printout.specs.Line.{decimal, lineText}
 use Rattle.recording.specs.Recording.{callOf, itemAt}
-use Rattle.player.specs.Player.{player, stepAt, playing}
+use Rattle.player.specs.Player.{started, stepAt, playing}
 use Rattle.player.specs.declared.Player.{Player}
 use Rattle.guarantees.specs.History.{Model, fresh, stepModel, runModel, lineByHistory}
 use Rattle.guarantees.specs.Behaviour.{makeRefusal, Seen, seenByModel, alongModel}
@@ -46,7 +46,7 @@ end-unit p (short kind) = refl
 
 pub playback : Playback
 playback m bytes calls ending r =
-    let p : Player = player m 0 false in
+    let p : Player = started m in
     let t = played-as (r .records) (r .ends) true p refl in
     let line = ap lineOf (unit-after p calls) in
     record {
@@ -87,9 +87,9 @@ playback-by-model port image t e bytes calls ending r =
     let p = playback m bytes calls ending r in
     let a = every-answer port image t .lives e calls in
     let along-lines : along lineOf m calls ≡ alongModel lineByHistory k calls =
-        sym (along-seen (λ s. s .line) m calls) ∙ ap (map (λ (s : Seen). s .line)) (a .seen-alike) ∙ model-seen (λ s. s .line) k calls in
+    sym (along-seen (λ s. s .line) m calls) ∙ ap (map (λ (s : Seen). s .line)) (a .seen-alike) ∙ model-seen (λ s. s .line) k calls in
     let line : lineOf (run m calls) ≡ lineByHistory (runModel k calls) =
-        sym (along-last m calls) ∙ ap (λ (ls : List Bool). getD ls (length calls) false) along-lines ∙ model-last k calls in
+    sym (along-last m calls) ∙ ap (λ (ls : List Bool). getD ls (length calls) false) along-lines ∙ model-last k calls in
     record { refusals = p .refusals ∙ rw (a .answered); alarms = p .alarms ∙ rw (along-lines, line) }
 
 pub blank-accepted : BlankAccepted

@@ -88,7 +88,7 @@ shape (lines a b c d e) = (refl, refl)
 pub end-item : {rest : List ℕ} {e : Ending} → Ends rest e → (bytes : List ℕ) (at : ℕ) → drop at bytes ≡ rest
     → itemAt bytes at ≡ endItem e
 end-item at-end bytes at d = no-item bytes at d
-end-item (at-unknown kind body u) bytes at d = some-item bytes at kind body d ∙ rw u
+end-item (at-unknown kind body u) bytes at d = let k : known kind ≡ false = u in some-item bytes at kind body d ∙ rw k
 end-item (in-body kind body missing more r) bytes at d =
     let s = shape r in
     some-item bytes at kind body d

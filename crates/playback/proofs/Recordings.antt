@@ -19,7 +19,7 @@ use Rattle.recording.specs.Recording.{known, bodyLength, itemAt}
 use Rattle.recording.proofs.KnownKinds.{bounds}
 use Rattle.recording.specs.declared.Item.{Item}
 use Rattle.recording.specs.declared.Item.the-variants as item
-use Rattle.playback.specs.Format.{Record, power-on, clean-cut, torn-cut, reset, frame, tick, sample, lines, Records, none, one-more, Ending, complete, unknown, short, Ends, at-end, at-unknown, in-body, Recording, number, word, encode, encoded, Signed16, Fits, All}
+use Rattle.playback.specs.Format.{Record, power-on, clean-cut, torn-cut, reset, frame, tick, sample, lines, Records, none, one-more, Ending, complete, unknown, short, Ends, at-end, at-unknown, in-body, Recording, number, word, levelBits, encode, encoded, Signed16, Fits, All}
 use Rattle.playback.specs.Playback.{kindOf, EveryRecording, EveryCall}
 use Rattle.playback.proofs.Decoding.{record-item, endItem, end-item}
 
@@ -153,11 +153,7 @@ signed-bits (negsuc n) h =
     let back : 0x10000 - suc (0xffff - n) ≡ n = omega arith in
     rw (le-ltb (0xffff - n) 0x8000 (omega arith), lt-ltb (0xffff - n) 0x10000 (omega arith), back)
 
--- the link levels as a byte
-abbrev levelsOf : Bool → Bool → Bool → ℕ
-levelsOf a b c = cond a 4 0 + cond b 2 0 + cond c 1 0
-
-levels : (a b c : Bool) → (bit 2 (levelsOf a b c) ≡ a) × (bit 1 (levelsOf a b c) ≡ b) × (bit 0 (levelsOf a b c) ≡ c)
+levels : (a b c : Bool) → (bit 2 (levelBits a b c) ≡ a) × (bit 1 (levelBits a b c) ≡ b) × (bit 0 (levelBits a b c) ≡ c)
 levels true true true = (refl, refl, refl)
 levels true true false = (refl, refl, refl)
 levels true false true = (refl, refl, refl)

@@ -2,7 +2,7 @@
 -- `recording`. Of the code it takes the types of the calls.
 -- Assumes nothing.
 use Prim.Native.Nat.{ℕ, _+_, _*_, _/_, _%_, _^_, _<_}
-use mathlib.Core.Bool.{false, cond}
+use mathlib.Core.Bool.{Bool, false, cond}
 use mathlib.Core.List.{List, [], _∷_, _++_, flatMap}
 use mathlib.Core.Path.{_≡_}
 use lib.IntN.{ℤ, pos, negsuc}
@@ -81,6 +81,10 @@ pub record Recording (bytes : List ℕ) (calls : List Call) (ending : Ending) : 
 abbrev pub word : ℕ → List ℕ
 word n = n / 256 ∷ n % 256 ∷ []
 
+-- three link levels in bits 2 to 0
+abbrev pub levelBits : (signal block lanes : Bool) → ℕ
+levelBits s b l = cond s 4 0 + cond b 2 0 + cond l 1 0
+
 abbrev pub encode : Call → List ℕ
 encode PowerOn = 0x01 ∷ []
 encode (Cut Clean) = 0x02 ∷ []
@@ -91,7 +95,7 @@ encode Tick = 0x06 ∷ []
 encode (Sample s) = 0x07 ∷ word (bitsOf (s .temperature)) ++ word (s .bias) ++ word (s .transmit) ++ word (s .receive)
 encode (Lines l) =
     0x08 ∷ word (l .receive) ++ word (l .transmit)
-    ++ (cond (l .signal) 4 0 + cond (l .block) 2 0 + cond (l .lanes) 1 0) ∷ []
+    ++ levelBits (l .signal) (l .block) (l .lanes) ∷ []
 
 -- the calls of a list, one behind the other
 abbrev pub encoded : List Call → List ℕ

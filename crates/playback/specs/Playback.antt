@@ -14,7 +14,7 @@ use Rattle.calls.specs.declared.Call.{Call}
 use Rattle.calls.specs.declared.Call.the-variants.{PowerOn, Cut, ResetPin, Frame, Tick, Lines, Sample}
 use Rattle.creation.specs.Creation.{make}
 use Rattle.printout.specs.declared.Line.{Line}
-use Rattle.player.specs.Player.{player, Transcript, transcript, textOf}
+use Rattle.player.specs.Player.{started, Transcript, transcript, textOf}
 use Rattle.player.specs.declared.Player.{Player}
 use Rattle.guarantees.specs.History.{Model, fresh, runModel, lineByHistory}
 use Rattle.guarantees.specs.Behaviour.{makeRefusal, answersByModel, alongModel}
@@ -66,7 +66,7 @@ countFrom i (suc n) = i ∷ countFrom (i + 1) n
 
 -- a whole recording, played on a module
 abbrev pub play : Module → List ℕ → Transcript
-play m bytes = transcript true (player m 0 false) bytes
+play m bytes = transcript true (started m) bytes
 
 -- playing equals the same list of calls: the record after it, and each column of its lines
 pub record Plays (m : Module) (bytes : List ℕ) (calls : List Call) (ending : Ending) : Type 0 where

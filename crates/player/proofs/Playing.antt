@@ -10,7 +10,7 @@ use lib.ListN.{length, getD, take, drop}
 use borrow.Author.Tests.{leb-true, leb-false, ltb-true, ltb-false, le-leb}
 use lib.Seq.{length-sets, take-all}
 use Rattle.io.proofs.Counting.{counts}
-use Rattle.printout.specs.Line.{lineText, Put, Written}
+use Rattle.printout.specs.Line.{lineText, longest, Put, Written}
 use Rattle.printout.specs.declared.Line.{Line}
 use Rattle.printout.proofs.Text.{then, with-room}
 use Rattle.recording.specs.Recording.{known, bodyLength, callOf, itemAt}
@@ -163,7 +163,7 @@ before-before ls l t = ap (λ (ks : List Line). record { lines = ks; used = t .u
 pub record Playing (p₀ : Player) (block : List ℕ) (last : Bool) (out₀ : List ℕ) (p : Player) (out : List ℕ) (at written : ℕ) : Type 0 where
   pub lines : List Line
   pub within : at ≤ length block
-  pub room : written ≤ at * 30
+  pub room : written ≤ at * longest
   pub sized : length out ≡ length out₀
   pub put : Put (textOf lines) out₀ 0 out written
   pub rest : transcript last p₀ block ≡ before lines (from last p block at)
@@ -191,7 +191,7 @@ module _ (p₀ : Player) (block : List ℕ) (last : Bool) (out₀ : List ℕ) (p
   ahead e = rw e at on
 
   pub more : {l : Line} {next : ℕ} {out′ : List ℕ} {written′ : ℕ} → s .shown ≡ shown.Line l next
-      → Written (lineText l) out written out′ written′ → length block * 30 ≤ length out₀
+      → Written (lineText l) out written out′ written′ → length block * longest ≤ length out₀
       → Playing p₀ block last out₀ (s .player) out′ next written′
   more {l} {next} {out′} {written′} e w fits =
       let a = ahead e in
@@ -205,7 +205,7 @@ module _ (p₀ : Player) (block : List ℕ) (last : Bool) (out₀ : List ℕ) (p
         rest = h .rest ∙ ap (before (h .lines)) (rw e at step-is) ∙ before-before (h .lines) l (from last (s .player) block next);
       }
 
-  pub whole : s .shown ≡ shown.Nothing → length block * 30 ≤ length out₀
+  pub whole : s .shown ≡ shown.Nothing → length block * longest ≤ length out₀
       → Plays (transcript last p₀ block) out₀ out (record { player = s .player; used = at; written = written })
   whole e fits =
       let done : transcript last p₀ block ≡ before (h .lines) (stopped p at) = h .rest ∙ ap (before (h .lines)) (rw e at step-is) in

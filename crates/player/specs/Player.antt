@@ -1,7 +1,7 @@
 -- Playing a bench recording, record by record. Document 02, P1.
 -- Assumes nothing.
 use Prim.Native.Nat.{ℕ, zero, suc, _+_, _%_, _^_}
-use mathlib.Core.Bool.{Bool, true, cond, _&&_}
+use mathlib.Core.Bool.{Bool, true, false, cond, _&&_}
 use mathlib.Core.List.{List, [], _∷_, _++_}
 use mathlib.Core.Path.{_≡_}
 use lib.Dec.{leb}
@@ -26,24 +26,27 @@ use Rattle.player.specs.declared.Played.{Played}
 abbrev pub player : Module → ℕ → Bool → Player
 player m i over = record { unit = m; index = i; over = over }
 
+-- before the first record
+abbrev pub started : Module → Player
+started m = player m 0 false
+
 -- ---- one record
--- its line shows the module as it is now, and the index counts on; after 2^64 records it begins again
-abbrev pub shows : Player → (kind refusal next : ℕ) → Step
-shows p kind refusal next =
+-- its line shows the module after it; the index counts on, and begins again after 2^64 records
+abbrev pub shows : Player → Module → (kind refusal next : ℕ) → Step
+shows p m kind refusal next =
     record {
-      player = player (p .unit) ((p .index + 1) % 2 ^ 64) (p .over);
-      shown = shown.Line (record { index = p .index; kind = kind; refusal = refusal; alarm = lineOf (p .unit) }) next;
+      player = player m ((p .index + 1) % 2 ^ 64) (p .over);
+      shown = shown.Line (record { index = p .index; kind = kind; refusal = refusal; alarm = lineOf m }) next;
     }
 
 -- a call: the module is the one that it leaves, refused or not
 abbrev pub played : Player → (kind : ℕ) → Call → (next : ℕ) → Step
-played p kind c next =
-    shows (player (step (p .unit) c .next) (p .index) (p .over)) kind (said (step (p .unit) c .answer) .refusal) next
+played p kind c next = shows p (step (p .unit) c .next) kind (said (step (p .unit) c .answer) .refusal) next
 
 -- a record that is refused before the module is asked: the module stays, and nothing is played after it, so all bytes are
 -- used
 abbrev pub ended : Player → (kind number size : ℕ) → Step
-ended p kind number size = shows (player (p .unit) (p .index) true) kind number size
+ended p kind number size = shows (player (p .unit) (p .index) true) (p .unit) kind number size
 
 abbrev pub still : Player → Step
 still p = record { player = p; shown = shown.Nothing }

@@ -1,9 +1,9 @@
 // Plays a bench recording on a module: one record at a time, or a block of them with their lines as text.
 ghost use mathlib.Core.Path.{_≡_};
-ghost use mathlib.Core.Bool.{false};
 ghost use Prim.Native.Nat.{_*_, _/_, _≤_, min};
 ghost use lib.ListN.{length};
-ghost use Rattle.player.specs.Player.{player, shows, played, ended, still, stepAt, transcript, transcriptWithin, Plays, Kept};
+ghost use Rattle.printout.specs.Line.{longest};
+ghost use Rattle.player.specs.Player.{started, shows, played, ended, still, stepAt, transcript, transcriptWithin, Plays, Kept};
 use calls::Call;
 use printout::LONGEST;
 use printout::Line;
@@ -53,7 +53,7 @@ fn least(a: usize, b: usize) -> usize
 impl Player {
     // A player of this module, before the first record.
     pub fn of(unit: Module) -> Player
-        ensures { λ r. ⌜ r ≡ player unit 0 false ⌝ }
+        ensures { λ r. ⌜ r ≡ started unit ⌝ }
     {
         Player {
             unit: unit,
@@ -62,16 +62,17 @@ impl Player {
         }
     }
 
-    // A record's line shows the module as it is now, and the index counts on.
-    fn shows(mut self, kind: u8, refusal: u8, next: usize) -> Step
-        ensures { λ r. ⌜ r ≡ shows self kind refusal next ⌝ }
+    // A record's line shows the module after it; the index counts on.
+    fn shows(mut self, unit: Module, kind: u8, refusal: u8, next: usize) -> Step
+        ensures { λ r. ⌜ r ≡ shows self unit kind refusal next ⌝ }
     {
         let line = Line {
             index: self.index,
             kind: kind,
             refusal: refusal,
-            alarm: alarm_line(self.unit),
+            alarm: alarm_line(unit),
         };
+        self.unit = unit;
         self.index = std::num::wrapping_add_u64(self.index, 1);
         Step {
             player: self,
@@ -80,14 +81,13 @@ impl Player {
     }
 
     // A call is made, refused or not.
-    fn played(mut self, kind: u8, call: Call, next: usize) -> Step
+    fn played(self, kind: u8, call: Call, next: usize) -> Step
         ensures { λ r. ⌜ r ≡ played self kind call next ⌝ }
     {
         let outcome = call.on(self.unit);
         let unit = outcome.next;
         let answer = outcome.answer;
-        self.unit = unit;
-        self.shows(kind, refusal_of(answer), next)
+        self.shows(unit, kind, refusal_of(answer), next)
     }
 
     // A record that the recording refuses: the module stays, and nothing is played after it, so all bytes are used.
@@ -95,7 +95,7 @@ impl Player {
         ensures { λ r. ⌜ r ≡ ended self kind number size ⌝ }
     {
         self.over = true;
-        self.shows(kind, number, size)
+        self.shows(self.unit, kind, number, size)
     }
 
     fn still(self) -> Step
@@ -129,7 +129,7 @@ impl Player {
 
     // Plays the whole records of a block and writes their lines.
     fn play_all(mut self, block: &[u8], last: bool, out: &mut [u8]) -> Played
-        requires { ⌜ length (now block) * 30 ≤ length (now out) ⌝ }
+        requires { ⌜ length (now block) * longest ≤ length (now out) ⌝ }
         ensures { λ r. ⌜ Plays (transcript last self (now (block .entry))) (now (out .entry)) (now (out .exit)) r ⌝ }
     {
         let mut at = 0;
@@ -156,7 +156,7 @@ impl Player {
 
     // Plays the whole records of a block, as far as there is surely room for their lines, and writes these.
     pub fn play(self, block: &[u8], last: bool, out: &mut [u8]) -> Played
-        ensures { λ r. ⌜ Plays (transcriptWithin (length (now (out .entry)) / 30) last self (now (block .entry))) (now (out .entry)) (now (out .exit)) r ⌝ }
+        ensures { λ r. ⌜ Plays (transcriptWithin (length (now (out .entry)) / longest) last self (now (block .entry))) (now (out .entry)) (now (out .exit)) r ⌝ }
     {
         let room = out.len() / LONGEST;
         let end = least(block.len(), room);

@@ -12,7 +12,7 @@ use lib.ListN.{length, getD, take, set, length-append, length-set}
 use lib.Seq.{sets, length-take-le, take-all, take-suc}
 use borrow.Author.Tests.{lt-ltb, le-ltb, le-leb, lt-leb, ltb-false, leb-true, leb-false}
 use Rattle.io.specs.Digits.{glyph, digits, Fewest}
-use Rattle.printout.specs.Line.{dash, digitsWithin, decimal, refusalText, lineText, Put, Written}
+use Rattle.printout.specs.Line.{dash, digitsWithin, decimal, refusalText, lineText, longest, Put, Written}
 use Rattle.printout.specs.declared.Line.{Line}
 
 -- ---- one text behind another
@@ -101,10 +101,10 @@ pub line-length : (l : Line) → length (lineText l) ≡ length (decimal (l .ind
 unfolding lineText
 line-length l = simp length-append (omega arith)
 
--- none has more than 30 characters
-pub longest : (l : Line) → l .index < 2 ^ 64 → l .refusal < 2 ^ 8 → length (lineText l) ≤ 30
+-- none is longer
+pub at-most : (l : Line) → l .index < 2 ^ 64 → l .refusal < 2 ^ 8 → length (lineText l) ≤ longest
 unfolding decimal
-longest l i r =
+at-most l i r =
     omega (arith, line-length l, digits-length 20 19 (l .index) (omega arith), numbered (eqb (l .refusal) 0))
   where
     numbered : (b : Bool) → length (cond b (dash ∷ []) (decimal (l .refusal))) ≤ 3
@@ -112,11 +112,11 @@ longest l i r =
     numbered false = digits-length 20 2 (l .refusal) (omega arith)
 
 -- where there is room for the longest line, and where not
-pub room : {t l a : List ℕ} {at end : ℕ} → length t ≤ 30 → at + 30 ≤ length l → Put t l at a end → Written t l at a end
+pub room : {t l a : List ℕ} {at end : ℕ} → length t ≤ longest → at + longest ≤ length l → Put t l at a end → Written t l at a end
 room short h p = record { bytes = rw (le-leb _ _ h) (p .bytes); ends = rw (le-leb _ _ h) (p .ends); short = omega (arith, p .ends) }
 
-pub with-room : {t l a : List ℕ} {at end : ℕ} → at + 30 ≤ length l → Written t l at a end → Put t l at a end
+pub with-room : {t l a : List ℕ} {at end : ℕ} → at + longest ≤ length l → Written t l at a end → Put t l at a end
 with-room h w = record { bytes = rw (le-leb _ _ h) at (w .bytes); ends = rw (le-leb _ _ h) at (w .ends) }
 
-pub no-room : {t l : List ℕ} {at : ℕ} → length l < at + 30 → Written t l at l at
+pub no-room : {t l : List ℕ} {at : ℕ} → length l < at + longest → Written t l at l at
 no-room h = record { bytes = rw (lt-leb _ _ h); ends = rw (lt-leb _ _ h); short = omega arith }

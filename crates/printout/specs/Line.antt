@@ -47,13 +47,18 @@ lineText l =
     decimal (l .index) ++ space ∷ kindText (l .kind) ++ space ∷ refusalText (l .refusal) ++ space ∷ alarmDigit (l .alarm)
     ∷ newline ∷ []
 
--- the characters are in the buffer from a position on, which ends behind them; the rest of it is as it was
+-- no line has more characters: 20 digits of the index, 2 of the kind, 3 of the refusal, 1 of the alarm line, spaces, newline
+abbrev pub longest : ℕ
+longest = 30
+
+-- ---- what writing leaves
+-- the text is in the buffer from a position on, and the next position is behind it; the rest is as it was
 pub record Put (text before : List ℕ) (at : ℕ) (after : List ℕ) (end : ℕ) : Type 0 where
   pub bytes : after ≡ sets before at text
   pub ends : end ≡ at + length text
 
--- likewise where there is room for the longest line, of 30 characters; else nothing is put
+-- likewise where there is room for the longest line; else nothing is written, and the position is the same
 pub record Written (text before : List ℕ) (at : ℕ) (after : List ℕ) (end : ℕ) : Type 0 where
-  pub bytes : after ≡ cond (leb (at + 30) (length before)) (sets before at text) before
-  pub ends : end ≡ cond (leb (at + 30) (length before)) (at + length text) at
-  pub short : end ≤ at + 30
+  pub bytes : after ≡ cond (leb (at + longest) (length before)) (sets before at text) before
+  pub ends : end ≡ cond (leb (at + longest) (length before)) (at + length text) at
+  pub short : end ≤ at + longest

@@ -17,7 +17,7 @@ pub struct Line {
     pub alarm: bool,
 }
 
-// No line is longer: 20 digits of the index, 2 of the kind, 3 of the refusal, 1 of the alarm line, spaces and newline.
+// No line is longer: 20 digits of the index, 2 of the kind, 3 of the refusal, 1 of the alarm line, spaces, newline.
 pub const LONGEST: usize = 30;
 
 // Each `put` writes characters from a position on, and gives the position after them.

@@ -2,7 +2,7 @@
 -- Assumes nothing.
 use native.Mathlib.Omega.{arith}
 use borrow.Author.Needs.{needs}
-use Rattle.printout.proofs.Text.{longest, room, no-room}
+use Rattle.printout.proofs.Text.{at-most, room, no-room}
 use Rattle.printout.proofs.Line.write.Statement.{statement}
 use Rattle.printout.proofs.Line.write.Tie as tie
 
@@ -13,6 +13,6 @@ write-spec =
     (λ c. no-room (omega arith))
     (λ c. search needs)
     (λ c. no-room (omega arith))
-    (λ c κs. omega (arith, longest (c .before .before .before .before .args .self) (search needs) (search needs)))
+    (λ c κs. omega (arith, at-most (c .before .before .before .before .args .self) (search needs) (search needs)))
     (λ c. search needs)
-    (λ c. room (longest (c .before .before .before .before .before .before .before .args .self) (search needs) (search needs)) (omega arith) (c .before .before .put-line .ensures)))
+    (λ c. room (at-most (c .before .before .before .before .before .before .before .args .self) (search needs) (search needs)) (omega arith) (c .before .before .put-line .ensures)))
