@@ -2,10 +2,10 @@
 -- Assumes nothing.
 use Prim.Native.Nat.{ℕ, _+_, _-_, _≤_, _<_, min}
 use native.Mathlib.Omega.{arith}
-use mathlib.Core.List.{List}
-use mathlib.Core.Path.{_≡_, refl, sym, _∙_}
-use lib.ListN.{length, getD, take, drop, set, length-set, length-take, length-drop}
-use lib.Seq.{getD-set-same, getD-set-other, getD-take, getD-drop, ext-getD}
+use mathlib.Core.List.{List, _++_}
+use mathlib.Core.Path.{_≡_, refl, sym, ap, ap₂, _∙_}
+use lib.ListN.{length, getD, take, drop, set, length-set, length-take, length-drop, take-append-drop}
+use lib.Seq.{getD-set-same, getD-set-other, getD-take, getD-drop, ext-getD, sets, sets-eq}
 use borrow.Author.Count.{below-more}
 use Rattle.player.specs.Player.{Kept}
 
@@ -45,11 +45,19 @@ module _ (from to : ℕ) (l a : List ℕ) (i n : ℕ) (p : Keeping from to l a i
   whole end e h =
       let size : length (drop from (take end l)) ≡ n = length-drop from (take end l) ∙ omega (arith, length-take end l, p .due, p .within) in
       let front : length (take n a) ≡ n = length-take n a ∙ omega (arith, p .sized, p .within) in
+      let behind : n ≡ 0 + length (drop from (take end l)) = omega arith in
+      let moved : take n a ≡ drop from (take end l) =
+      ext-getD 0 (take n a) (drop from (take end l)) (front ∙ sym size)
+      (λ k lt.
+      getD-take n a k 0 (omega arith) ∙ p .moved k (omega arith)
+      ∙ sym (getD-drop from (take end l) k 0 ∙ getD-take end l (from + k) 0 (omega (arith, p .within)))) in
+      let still : drop n a ≡ drop n l =
+      ext-getD 0 (drop n a) (drop n l) (length-drop n a ∙ omega (arith, length-drop n l, p .sized))
+      (λ k lt. getD-drop n a k 0 ∙ p .still (n + k) (omega arith) ∙ sym (getD-drop n l k 0)) in
       record {
         bytes =
-            ext-getD 0 (take n a) (drop from (take end l)) (front ∙ sym size)
-            (λ k lt.
-            getD-take n a k 0 (omega arith) ∙ p .moved k (omega arith)
-            ∙ sym (getD-drop from (take end l) k 0 ∙ getD-take end l (from + k) 0 (omega (arith, p .within))));
+            sym (take-append-drop n a) ∙ ap₂ _++_ moved still
+            ∙ ap (λ (k : ℕ). drop from (take end l) ++ drop k l) behind
+            ∙ sym (sets-eq (drop from (take end l)) l 0 (omega (arith, size, p .within)));
         counted = sym size;
       }

@@ -100,7 +100,7 @@ abbrev pub textOf : List Line → List ℕ
 textOf [] = []
 textOf (l ∷ ls) = lineText l ++ textOf ls
 
--- a transcript, and its text at the start of a buffer, whose rest is as it was
+-- a transcript, and its text at the start of a buffer, which has room for it; the rest is as it was
 pub record Plays (t : Transcript) (before after : List ℕ) (r : Played) : Type 0 where
   pub player : r .player ≡ t .player
   pub used : r .used ≡ t .used
@@ -109,7 +109,7 @@ pub record Plays (t : Transcript) (before after : List ℕ) (r : Played) : Type 
   pub fits : Counts (r .written) after
 
 -- ---- what is left of a block
--- the bytes from a position to the block's end are at the front of the buffer, so many of them
+-- the bytes from a position to the block's end are at the front of the buffer; the rest is as it was
 pub record Kept (from end : ℕ) (before after : List ℕ) (count : ℕ) : Type 0 where
-  pub bytes : take count after ≡ drop from (take end before)
+  pub bytes : after ≡ sets before 0 (drop from (take end before))
   pub counted : count ≡ length (drop from (take end before))

@@ -20,9 +20,9 @@ mod refusal;
 pub struct Player {
     // The module that is played on.
     pub unit: Module,
-    // How many records it played.
+    // The next record's.
     pub index: u64,
-    // A record was refused by the recording, with 9 or 10: it was the last.
+    // A record was refused with 9 or 10, and was the last.
     pub over: bool,
 }
 
@@ -107,7 +107,7 @@ impl Player {
         }
     }
 
-    // Plays the record at a position; `last` says that no bytes follow these, so that a body cut short is refused.
+    // Plays the record at a position. `last` says that no bytes follow these: then a body cut short is refused.
     pub fn step(self, bytes: &[u8], at: usize, last: bool) -> Step
         ensures { λ r. ⌜ r ≡ stepAt last self (now (bytes .entry)) at ⌝ }
     {
@@ -154,7 +154,7 @@ impl Player {
         }
     }
 
-    // Plays the whole records of a block, as far as there is surely room for their lines, and writes these.
+    // Plays the whole records of a block, as far as there is surely room for their lines, and writes the lines.
     pub fn play(self, block: &[u8], last: bool, out: &mut [u8]) -> Played
         ensures { λ r. ⌜ Plays (transcriptWithin (length (now (out .entry)) / longest) last self (now (block .entry))) (now (out .entry)) (now (out .exit)) r ⌝ }
     {
@@ -164,7 +164,7 @@ impl Player {
     }
 }
 
-// What is left of a block, from a position to its end, goes to the front of its buffer; how many bytes that is.
+// Moves what is left of a block, from a position to the block's end, to the front of its buffer; how many bytes that is.
 pub fn keep(buffer: &mut [u8], from: usize, end: usize) -> usize
     ensures { λ r. ⌜ Kept from end (now (buffer .entry)) (now (buffer .exit)) r ⌝ }
 {

@@ -57,7 +57,8 @@ pub record Put (text before : List ℕ) (at : ℕ) (after : List ℕ) (end : ℕ
   pub bytes : after ≡ sets before at text
   pub ends : end ≡ at + length text
 
--- likewise where there is room for the longest line; else nothing is written, and the position is the same
+-- likewise where there is room for the longest line, which this one is not past; else nothing is written, and the position is
+-- the same
 pub record Written (text before : List ℕ) (at : ℕ) (after : List ℕ) (end : ℕ) : Type 0 where
   pub bytes : after ≡ cond (leb (at + longest) (length before)) (sets before at text) before
   pub ends : end ≡ cond (leb (at + longest) (length before)) (at + length text) at

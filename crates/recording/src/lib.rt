@@ -1,7 +1,7 @@
 // A bench recording's bytes as calls: a record is one byte of kind, then a body, whose numbers come high byte first.
-ghost use mathlib.Core.Path.{_≡_};
-ghost use Prim.Native.Nat.{_+_, _≤_, _<_};
 ghost use mathlib.Core.Bool.{true};
+ghost use mathlib.Core.Path.{_≡_};
+ghost use Prim.Native.Nat.{_+_, _≤_};
 ghost use lib.ListN.{length};
 ghost use Rattle.recording.specs.Recording.{known, bodyLength, word, frameOf, sampleOf, linesOf, callOf, itemAt};
 use alarms::Lines;
@@ -11,7 +11,7 @@ use dom::signed_code;
 use store::Cut;
 use words::bit;
 
-// The refusals of a recording, beside the module's own: a kind that is none of 01 to 08, a body cut short.
+// The recording's refusals, beside the module's: an unknown kind, and a body cut short.
 pub const UNKNOWN_KIND: u8 = 9;
 
 pub const CUT_SHORT: u8 = 10;
@@ -20,14 +20,15 @@ pub const CUT_SHORT: u8 = 10;
 pub enum Item {
     // A whole record: its kind, its call, and the position after it.
     Call(u8, Call, usize),
-    // A kind that is none of 01 to 08.
+    // An unknown kind.
     Unknown(u8),
-    // A kind whose body runs past the end.
+    // A kind whose body is cut short.
     Short(u8),
     // No byte is left.
     End,
 }
 
+// The kinds are 01 to 08.
 pub fn known(kind: u8) -> bool
     ensures { λ r. ⌜ r ≡ known kind ⌝ }
 {
