@@ -1,18 +1,8 @@
 // Plays recordings whole, each on a blank module of its own, and holds the printed lines to a file: its arguments name a
 // recording and that file, and so on.
 ghost use Rattle.io.specs.Counts.{Counts};
-use creation::make;
 use libc::STDOUT_FILENO;
 use player::Player;
-use xenpak::Module;
-
-// Port 0, all bytes zero, off.
-fn blank() -> Module {
-    let image = [0; 256];
-    let thresholds = [0; 40];
-    let outcome = make(0, &image, &thresholds);
-    outcome.next
-}
 
 fn say(text: &[u8]) {
     io::write_all(STDOUT_FILENO, text);
@@ -42,7 +32,7 @@ fn play(i: usize, next: usize) {
     let mut recording = io::buffer();
     let size = contents(i, &mut recording);
     let mut lines = [0; 122_880];
-    let played = Player::of(blank()).play(&recording[..size], true, &mut lines);
+    let played = Player::blank().play(&recording[..size], true, &mut lines);
     let written = played.written;
     let mut expected = io::large_buffer();
     let length = contents(next, &mut expected);

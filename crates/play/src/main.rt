@@ -4,14 +4,12 @@ ghost use mathlib.Core.Bool.{true};
 ghost use Prim.Native.Nat.{_/_, _≤_, _<_};
 ghost use lib.ListN.{length};
 ghost use Rattle.printout.specs.Line.{longest};
-use creation::make;
 use libc::STDERR_FILENO;
 use libc::STDIN_FILENO;
 use libc::STDOUT_FILENO;
 use player::Player;
 use player::keep;
 use printout::LONGEST;
-use xenpak::Module;
 
 // How many bytes of a recording are played at a time, and room for as many of the longest lines.
 const BLOCK: usize = 8192;
@@ -23,14 +21,6 @@ struct Progress {
     player: Player,
     held: usize,
     more: bool,
-}
-
-// Port 0, all bytes zero, off.
-fn blank() -> Module {
-    let image = [0; 256];
-    let thresholds = [0; 40];
-    let outcome = make(0, &image, &thresholds);
-    outcome.next
 }
 
 fn tell(text: &[u8]) {
@@ -83,7 +73,7 @@ fn turn(player: Player, held: usize, input: &mut [u8], output: &mut [u8]) -> Pro
 fn main() {
     let mut input = [0; BLOCK];
     let mut output = [0; ROOM];
-    let mut player = Player::of(blank());
+    let mut player = Player::blank();
     let mut held = 0;
     let mut turns = u64::MAX;
     while turns > 0 {

@@ -24,7 +24,7 @@ use Rattle.guarantees.specs.Behaviour.{makeRefusal, Seen, seenByModel, alongMod
 use Rattle.guarantees.specs.Guarantees.{seen, along}
 use Rattle.guarantees.proofs.TwoRuns.{every-answer}
 use Rattle.playback.specs.Format.{Ending, complete, unknown, short, Recording}
-use Rattle.playback.specs.Playback.{kindOf, last, countFrom, play, Plays, Playback, PlaybackByModel, BlankAccepted, Example}
+use Rattle.playback.specs.Playback.{kindOf, last, countFrom, play, Plays, Playback, PlaybackByModel, Blank, Example}
 use Rattle.playback.proofs.Columns.{after, lines, endPlayer, endLine, endLines, played-as, unit-after, kinds, refusals, alarms, indexes}
 
 -- what the last line shows
@@ -92,9 +92,9 @@ playback-by-model port image t e bytes calls ending r =
     sym (along-last m calls) ∙ ap (λ (ls : List Bool). getD ls (length calls) false) along-lines ∙ model-last k calls in
     record { refusals = p .refusals ∙ rw (a .answered); alarms = p .alarms ∙ rw (along-lines, line) }
 
-pub blank-accepted : BlankAccepted
-unfolding makeRefusal
-blank-accepted = refl
+pub blank-made : Blank
+unfolding makeRefusal make zeros
+blank-made = record { not-refused = refl; made = refl }
 
 pub example : Example
 unfolding flatten playing stepAt itemAt callOf decimal lineText make bit anyBit share zeros step calls.powerOn calls.powerCut calls.tick

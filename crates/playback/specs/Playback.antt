@@ -7,12 +7,13 @@ use mathlib.Core.Path.{_≡_}
 use lib.ListN.{length, drop, replicate}
 use Rattle.answers.specs.Answers.{Said}
 use Rattle.store.specs.declared.Cut.the-variants.{Clean, Torn}
+use Rattle.xenpak.specs.Calls.{accepted}
 use Rattle.xenpak.specs.declared.Module.{Module}
 use Rattle.reads.specs.Reads.{lineOf}
 use Rattle.calls.specs.Calls.{run}
 use Rattle.calls.specs.declared.Call.{Call}
 use Rattle.calls.specs.declared.Call.the-variants.{PowerOn, Cut, ResetPin, Frame, Tick, Lines, Sample}
-use Rattle.creation.specs.Creation.{make}
+use Rattle.creation.specs.Creation.{blank, make}
 use Rattle.printout.specs.declared.Line.{Line}
 use Rattle.player.specs.Player.{started, Transcript, transcript, textOf}
 use Rattle.player.specs.declared.Player.{Player}
@@ -95,12 +96,11 @@ PlaybackByModel = (port : ℕ) (image thresholds : List ℕ) → makeRefusal por
     → (bytes : List ℕ) (calls : List Call) (ending : Ending) → Recording bytes calls ending
     → ByModel (make port image thresholds .next) (fresh port image thresholds) bytes calls ending
 
--- ---- the blank module, on which the program plays: making accepts its zeros
-abbrev pub blank : Module
-blank = make 0 (replicate 256 0) (replicate 40 0) .next
-
-abbrev pub BlankAccepted : Type 0
-BlankAccepted = makeRefusal 0 (replicate 256 0) (replicate 40 0) ≡ 0
+-- ---- the blank module, on which the program plays: it is what making gives for zeros, and accepts, so that the above holds of
+-- it
+pub record Blank : Type 0 where
+  pub not-refused : makeRefusal 0 (replicate 256 0) (replicate 40 0) ≡ 0
+  pub made : make 0 (replicate 256 0) (replicate 40 0) ≡ accepted blank
 
 -- document 02's example: for the bytes 01 06 02 06 the program prints `0 01 - 0`, `1 06 - 0`, `2 02 - 0`, `3 06 7 0`
 abbrev pub exampleLines : List (List ℕ)

@@ -2,9 +2,11 @@
 ghost use mathlib.Core.Path.{_≡_};
 ghost use Prim.Native.Nat.{_*_, _/_, _≤_, min};
 ghost use lib.ListN.{length};
+ghost use Rattle.creation.specs.Creation.{blank};
 ghost use Rattle.printout.specs.Line.{longest};
 ghost use Rattle.player.specs.Player.{started, shows, played, ended, still, stepAt, transcript, transcriptWithin, Plays, Kept};
 use calls::Call;
+use creation::make;
 use printout::LONGEST;
 use printout::Line;
 use reads::alarm_line;
@@ -60,6 +62,17 @@ impl Player {
             index: 0,
             over: false,
         }
+    }
+
+    // A player of the blank module: port 0, all bytes zero, off.
+    pub fn blank() -> Player
+        ensures { λ r. ⌜ r ≡ started blank ⌝ }
+    {
+        let image = [0; 256];
+        let thresholds = [0; 40];
+        let outcome = make(0, &image, &thresholds);
+        let unit = outcome.next;
+        Player::of(unit)
     }
 
     // A record's line shows the module after it; the index counts on.

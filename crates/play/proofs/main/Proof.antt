@@ -16,7 +16,6 @@ main-spec =
     (λ input₀ output₀ player₀ held₀ turns₀ input output player held turns. (held ≤ 8) × (length input ≡ 8192) × (length output ≡ 245760))
     (λ input₀ output₀ player₀ held₀ turns₀ input output player held turns. turns)
     (λ c κs. search needs)
-    (λ c κs. search needs)
     (λ c. search needs)
     (λ c. search needs)
     (λ c. search needs)
