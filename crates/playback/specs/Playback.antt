@@ -89,7 +89,8 @@ pub record ByModel (m : Module) (k : Model) (bytes : List ℕ) (calls : List Cal
   pub refusals : map (λ (l : Line). l .refusal) (play m bytes .lines)
       ≡ map (λ (s : Said). s .refusal) (answersByModel k calls) ++ last ending (λ k. 9) (λ k. 10)
   pub alarms : map (λ (l : Line). l .alarm) (play m bytes .lines)
-      ≡ drop 1 (alongModel lineByHistory k calls) ++ last ending (λ _. lineByHistory (runModel k calls)) (λ _. lineByHistory (runModel k calls))
+      ≡ drop 1 (alongModel lineByHistory k calls)
+      ++ last ending (λ _. lineByHistory (runModel k calls)) (λ _. lineByHistory (runModel k calls))
 
 abbrev pub PlaybackByModel : Type 0
 PlaybackByModel = (port : ℕ) (image thresholds : List ℕ) → makeRefusal port image thresholds ≡ 0

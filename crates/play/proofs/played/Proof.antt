@@ -23,4 +23,9 @@ played-spec =
     (λ c κs. search needs)
     (λ c. search needs)
     (λ c. search needs)
-    (λ c. held (c .before .before .before .before .before .before .before .before .before .before .before .before .before .before .before .before .args .player) _ _ _ _ _ _ (c .before .before .before .before .before .before .before .before .before .before .before .before .before .before .before .before .args .last) (c .before .before .before .before .before .before .write-all .result && not (c .before .before .before .before .before .before .before .before .before .before .before .before .before .before .before .before .args .last)) _ (c .before .before .before .before .before .before .before .before .before .before .before .before .before .before .before .before .pre .0) (c .before .before .before .before .before .before .before .before .before .before .before .before .before .before .before .before .pre .1) (c .before .before .before .before .before .before .before .before .before .before .before .play .ensures) (c .before .before .before .keep .ensures)))
+    (λ c.
+    let printed = c .before .before .before .before .before .before in
+    let block = printed .before .before .before .before .before in
+    let start = block .before .before .before .before .before in
+    held (start .args .player) _ _ _ _ _ _ (start .args .last) (printed .write-all .result && not (start .args .last)) _ (start .pre .0)
+    (start .pre .1) (block .play .ensures) (c .before .before .before .keep .ensures)))

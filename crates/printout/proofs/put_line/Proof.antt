@@ -14,14 +14,29 @@ put-line-spec =
     (tie.spec
     (λ c κs. omega (arith, line-length (c .before .before .args .line)))
     (λ c κs. omega (arith, line-length (c .before .before .before .before .before .before .args .line)))
-    (λ c κs. omega (arith, line-length (c .before .before .before .before .before .before .before .before .before .before .args .line), c .before .before .before .before .before .before .before .put-decimal .ensures .ends, c .before .before .before .before .before .before .before .before .before .before .pre))
-    (λ c κs. omega (arith, line-length (c .before .before .before .before .before .before .before .before .before .before .before .before .before .before .args .line), c .before .before .before .before .before .before .before .before .before .before .before .put-decimal .ensures .ends, c .before .before .before .before .before .before .before .put-kind .ensures .ends, c .before .before .before .before .before .before .before .before .before .before .before .before .before .before .pre))
+    (λ c κs.
+    let index = c .before .before .before .before .before .before .before in
+    let start = index .before .before .before in
+    omega (arith, line-length (start .args .line), index .put-decimal .ensures .ends, start .pre))
+    (λ c κs.
+    let kind = c .before .before .before .before .before .before .before in
+    let index = kind .before .before .before .before in
+    let start = index .before .before .before in
+    omega (arith, line-length (start .args .line), index .put-decimal .ensures .ends, kind .put-kind .ensures .ends, start .pre))
     (λ c κs. search needs)
-    (λ c κs. omega (arith, line-length (c .before .before .before .before .before .before .before .before .before .before .before .before .before .before .before .before .before .before .before .args .line), c .before .before .before .before .before .before .before .before .before .before .before .before .before .before .before .before .put-decimal .ensures .ends, c .before .before .before .before .before .before .before .before .before .before .before .before .put-kind .ensures .ends, c .before .before .before .before .before .before .before .before .put .ensures .ends, c .before .before .before .before .before .before .before .before .before .before .before .before .before .before .before .before .before .before .before .pre))
+    (λ c κs.
+    let gap = c .before .before .before .before .before .before .before .before in
+    let kind = gap .before .before .before .before in
+    let index = kind .before .before .before .before in
+    let start = index .before .before .before in
+    omega (arith, line-length (start .args .line), index .put-decimal .ensures .ends, kind .put-kind .ensures .ends, gap .put .ensures .ends, start .pre))
     (λ c. search needs)
     (λ c.
+    let refusal = c .before .before .before .before .before .before .before in
+    let gap = refusal .before .before .before .before in
+    let kind = gap .before .before .before .before in
     then
     (then
-    (then (c .before .before .before .before .before .before .before .before .before .before .before .before .before .before .before .before .before .before .before .put-decimal .ensures) (c .before .before .before .before .before .before .before .before .before .before .before .before .before .before .before .put-kind .ensures))
-    (then (c .before .before .before .before .before .before .before .before .before .before .before .put .ensures) (c .before .before .before .before .before .before .before .put-refusal .ensures)))
+    (then (kind .before .before .before .before .put-decimal .ensures) (kind .put-kind .ensures))
+    (then (gap .put .ensures) (refusal .put-refusal .ensures)))
     (rw (c .before .before .before .before .alarm-digit .ensures) at (c .before .before .put-three .ensures))))

@@ -22,11 +22,15 @@ item-at-spec =
     (λ c. search needs)
     (λ c κs. search needs)
     (λ c. search needs)
-    (λ c. rw (lt-leb _ _ (c .before .before .before .before .before .if1 .left), ← c .before .before .before .known .ensures, c .before .before .if2 .left, ← c .before .body-length .ensures, lt-ltb _ _ (c .if3 .taken)))
+    (λ c.
+    let known = c .before .before in
+    rw (lt-leb _ _ (known .before .before .before .if1 .left), ← known .before .known .ensures, known .if2 .left, ← c .before .body-length .ensures, lt-ltb _ _ (c .if3 .taken)))
     (λ c. search needs)
     (λ c. search needs)
     (λ c. search needs)
     (λ c κs.
     (simp (length-take, length-drop) (omega (arith, c .before .before .body-length .ensures)), sym (c .before .before .before .before .known .ensures) ∙ not-false _ (c .before .before .before .if2 .left)))
     (λ c. search needs)
-    (λ c. rw (lt-leb _ _ (c .before .before .before .before .before .before .before .if1 .left), ← c .before .before .before .before .before .known .ensures, c .before .before .before .before .if2 .left, ← c .before .before .before .body-length .ensures, le-ltb _ _ (c .before .before .if3 .left), c .call-of .ensures, tail-is)))
+    (λ c.
+    let known = c .before .before .before .before in
+    rw (lt-leb _ _ (known .before .before .before .if1 .left), ← known .before .known .ensures, known .if2 .left, ← c .before .before .before .body-length .ensures, le-ltb _ _ (c .before .before .if3 .left), c .call-of .ensures, tail-is)))

@@ -24,8 +24,17 @@ play-all-spec =
     (λ c κs. search needs)
     (λ c. search needs)
     (λ c κs. search needs)
-    (λ c. omega (arith, ahead _ _ _ _ _ _ _ _ (c .before .before .before .before .before .before .before .before .before .loop .inv) _ (c .before .before .before .before .before .before .before .before .step .ensures) (c .before .before .before .before .before .shown .given .1)))
-    (λ c. more _ _ _ _ _ _ _ _ (c .before .before .before .before .before .before .before .before .before .loop .inv) _ (c .before .before .before .before .before .before .before .before .step .ensures) (c .before .before .before .before .before .shown .given .1) (c .before .before .write .ensures) (c .before .before .before .before .before .before .before .before .before .before .before .before .pre))
+    (λ c.
+    let shown = c .before .before .before .before .before in
+    let turn = shown .before .before .before .before in
+    omega (arith, ahead _ _ _ _ _ _ _ _ (turn .loop .inv) _ (shown .before .before .before .step .ensures) (shown .shown .given .1)))
+    (λ c.
+    let shown = c .before .before .before .before .before in
+    let turn = shown .before .before .before .before in
+    more _ _ _ _ _ _ _ _ (turn .loop .inv) _ (shown .before .before .before .step .ensures) (shown .shown .given .1) (c .before .before .write .ensures)
+    (turn .before .before .before .pre))
     (λ c. search needs)
     (λ c. c .before .before .before .before .loop .inv .sized)
-    (λ c. whole _ _ _ _ _ _ _ _ (c .before .before .before .before .loop .inv) _ (c .before .before .before .step .ensures) (c .enum-told .given .1) (c .before .before .before .before .before .before .before .pre)))
+    (λ c.
+    let turn = c .before .before .before .before in
+    whole _ _ _ _ _ _ _ _ (turn .loop .inv) _ (c .before .before .before .step .ensures) (c .enum-told .given .1) (turn .before .before .before .pre)))
