@@ -1,7 +1,8 @@
 /* Writes bench recordings (document 02, P1) to standard output.
-   records NAME               one of those in examples/, or edge, which the gate plays
-   records random N [SEED]    N records of random kinds with random bodies
-   records lively N [SEED]    the same, but most frames are for the module, at addresses where something happens */
+   records NAME                   one of those in examples/, or edge, which the gate plays
+   records ending KIND N UP AT    from byte AT on a kind and N bytes, then nothing; the alarm line is up (1) or not (0)
+   records random N [SEED]        N records of random kinds with random bodies
+   records lively N [SEED]        the same, but most frames are for the module, at addresses where something happens */
 #include <stdint.h>
 #include <stdio.h>
 #include <stdlib.h>
@@ -9,7 +10,12 @@
 
 enum { POWER_ON = 1, CLEAN_CUT, TORN_CUT, RESET, FRAME, TICK, SAMPLE, LINES };
 
-static void byte(unsigned b) { putchar(b & 0xff); }
+static unsigned written;
+
+static void byte(unsigned b) {
+    putchar(b & 0xff);
+    written++;
+}
 
 /* Numbers come high byte first. */
 static void word(unsigned w) {
@@ -101,13 +107,18 @@ static void power_lost(void) {
     for (int i = 0; i < 3; i++) read_increment();
 }
 
-/* A receive fault raises the alarm line: a read while it lasts leaves it, one after it is gone clears it. Then the temperature,
-   by its flag, and the link. */
-static void alarm(void) {
-    power_on_and_load();
+/* A receive fault raises the alarm line. */
+static void alarm_up(void) {
     write_at(0x9000, 0x003b);
     write_at(0x9002, 0x0004);
     lines(0x0008, 0x0000, 7);
+}
+
+/* A read while the fault lasts leaves the line, one after it is gone clears it. Then the temperature, by its flag, and the
+   link. */
+static void alarm(void) {
+    power_on_and_load();
+    alarm_up();
     read_at(0x9003);
     lines(0x0008, 0x0000, 7);
     lines(0x0000, 0x0000, 7);
@@ -157,14 +168,33 @@ static void cut_short(void) {
     word(0x3004);
 }
 
-/* Document 02's example, then so many samples that one crosses the edge of a block of 8,192 bytes: the gate plays this. */
+/* Document 02's example; then the alarm line goes up and down, while a frame, a sample and a lines call cross the edges of the
+   blocks of 8,192 bytes; the last body is cut short. The gate plays this. */
 static void edge(void) {
     byte(POWER_ON);
     byte(TICK);
     byte(CLEAN_CUT);
     byte(TICK);
-    byte(POWER_ON);
-    for (unsigned i = 0; i < 1000; i++) sample(i % 2 ? 0x1900 : 0x7d01, i, 0, 0);
+    power_on_and_load();
+    alarm_up();
+    address(0x9003);
+    for (unsigned i = 0; written < 3 * 8192; i++) {
+        sample(i % 3 ? 0x1900 : 0x7d01, i, 0, 0);
+        lines(i % 4 < 2 ? 0x0008 : 0x0000, 0x0000, 7);
+        read_here();
+        ticks(i % 2);
+    }
+    lines(0x0008, 0x0000, 7);
+    byte(FRAME);
+    word(0x3004);
+}
+
+static void ending(unsigned kind, unsigned n, int up, unsigned at) {
+    power_on_and_load();
+    if (up) alarm_up();
+    while (written < at) byte(TICK);
+    byte(kind);
+    while (n-- > 0) byte(0xff);
 }
 
 /* ---- random ones */
@@ -221,6 +251,10 @@ int main(int argc, char **argv) {
     if (argc > 2 && (is_lively || !strcmp(name, "random"))) {
         state = argc > 3 ? strtoul(argv[3], NULL, 10) : 1;
         random_records(atol(argv[2]), is_lively);
+        return 0;
+    }
+    if (argc == 6 && !strcmp(name, "ending")) {
+        ending(atoi(argv[2]), atoi(argv[3]), atoi(argv[4]), atoi(argv[5]));
         return 0;
     }
     for (size_t i = 0; i < sizeof examples / sizeof *examples; i++)

@@ -1,2 +1,2 @@
 -- Laws of `play` that belong to no one function.
-pub mod Held
+pub mod Turns

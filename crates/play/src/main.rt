@@ -1,9 +1,8 @@
 // Plays a bench recording from standard input on the blank module, and prints a line for each record.
-ghost use mathlib.Core.Path.{_≡_};
-ghost use mathlib.Core.Bool.{true};
 ghost use Prim.Native.Nat.{_/_, _≤_, _<_};
-ghost use lib.ListN.{length};
+ghost use lib.ListN.{length, take};
 ghost use Rattle.printout.specs.Line.{longest};
+ghost use Rattle.play.specs.Turn.{Block, Turn};
 use libc::STDERR_FILENO;
 use libc::STDIN_FILENO;
 use libc::STDOUT_FILENO;
@@ -31,7 +30,7 @@ fn tell(text: &[u8]) {
 fn played(player: Player, input: &mut [u8], end: usize, last: bool, output: &mut [u8]) -> Progress
     requires { ⌜ end ≤ length (now input) ⌝ }
     requires { ⌜ length (now input) ≤ length (now output) / longest ⌝ }
-    ensures { λ r. ⌜ (r .more ≡ true → r .held ≤ 8) ⌝ }
+    ensures { λ r. ⌜ Block last player (take end (now (input .entry))) (now (output .entry)) (now (output .exit)) (now (input .exit)) r ⌝ }
 {
     let block = player.play(&input[..end], last, output);
     let next = block.player;
@@ -54,7 +53,7 @@ fn turn(player: Player, held: usize, input: &mut [u8], output: &mut [u8]) -> Pro
     requires { ⌜ held ≤ 8 ⌝ }
     requires { ⌜ 8 < length (now input) ⌝ }
     requires { ⌜ length (now input) ≤ length (now output) / longest ⌝ }
-    ensures { λ r. ⌜ (r .more ≡ true → r .held ≤ 8) ⌝ }
+    ensures { λ r. ⌜ Turn player (take held (now (input .entry))) (now (output .entry)) (now (output .exit)) (now (input .exit)) r ⌝ }
 {
     let got = libc::read(STDIN_FILENO, &mut input[held..]);
     if got < 0 {

@@ -4,10 +4,9 @@ use Prim.Native.Nat.{ℕ}
 use mathlib.Core.Bool.{Bool, true, false}
 use mathlib.Core.List.{List, [], _∷_, _++_, map, map-append, flatten}
 use mathlib.Core.Path.{_≡_, refl, sym, ap, ap₂, _∙_}
-use lib.ListN.{length, getD, drop}
+use lib.ListN.{length, getD}
 use Rattle.words.specs.Words.{bit, anyBit, share}
 use Rattle.store.specs.Bytes.{zeros}
-use Rattle.answers.specs.Answers.{Said}
 use Rattle.xenpak.specs.Calls as calls
 use Rattle.xenpak.specs.declared.Module.{Module}
 use Rattle.reads.specs.Reads.{lineOf}
@@ -23,8 +22,8 @@ use Rattle.guarantees.specs.History.{Model, fresh, stepModel, runModel, lineByH
 use Rattle.guarantees.specs.Behaviour.{makeRefusal, Seen, seenByModel, alongModel}
 use Rattle.guarantees.specs.Guarantees.{seen, along}
 use Rattle.guarantees.proofs.TwoRuns.{every-answer}
-use Rattle.playback.specs.Format.{Ending, complete, unknown, short, Recording}
-use Rattle.playback.specs.Playback.{kindOf, last, countFrom, play, Plays, Playback, PlaybackByModel, Blank, Example}
+use Rattle.playback.specs.Format.{Ending, complete, unknown, short}
+use Rattle.playback.specs.Playback.{last, Playback, PlaybackByModel, Blank, Example}
 use Rattle.playback.proofs.Columns.{after, lines, endPlayer, endLine, endLines, played-as, unit-after, kinds, refusals, alarms, indexes}
 
 -- what the last line shows

@@ -3,17 +3,19 @@
 use Prim.Native.Nat.{ℕ, _-_}
 use native.Mathlib.Omega.{arith}
 use mathlib.Core.Bool.{Bool, true, false}
-use mathlib.Core.List.{List, [], _∷_, _++_, append-nil, append-assoc, flatten}
-use mathlib.Core.Path.{_≡_, refl, sym, ap, ap₂, _∙_, subst}
+use mathlib.Core.List.{List, [], _∷_, _++_, append-nil, append-assoc, map, flatten}
+use mathlib.Core.Path.{_≡_, refl, sym, ap, _∙_}
 use lib.ListN.{length, drop}
+use lib.Seq.{drop-drop}
 use Rattle.calls.specs.declared.Call.{Call}
 use Rattle.printout.specs.declared.Line.{Line}
-use Rattle.player.specs.Player.{Transcript, stopped, transcript}
+use Rattle.player.specs.Player.{Transcript, stopped, playing, transcript}
 use Rattle.player.specs.declared.Player.{Player}
 use Rattle.player.proofs.Playing.{enough}
-use Rattle.playback.specs.Format.{Record, Records, none, one-more, Ending, complete, unknown, short, Ends, at-end, at-unknown, in-body}
-use Rattle.playback.specs.Playback.{Told, Result, blockThen, inBlocks, InBlocks}
+use Rattle.playback.specs.Format.{Records, none, one-more, Ending, complete, unknown, short, Ends, at-unknown}
+use Rattle.playback.specs.Playback.{both, Block, Result, blockThen, inBlocks, InBlocks}
 use Rattle.playback.proofs.Recordings.{every-recording}
+use Rattle.playback.proofs.Parts.{in-parts}
 use Rattle.playback.proofs.Columns.{afterCall, callLine, after, over-after, lines, when-over, overAfter, endPlayer, endLines, played-as}
 
 -- ---- more bytes behind
@@ -84,14 +86,31 @@ module _ (p : Player) (xs ys : List ℕ) where
       go false o = let told = every-recording xs in by (told .ending) (told .recording .records) (told .recording .ends) o
 
 -- ---- all of them
-blocks-joined : (p : Player) (held : List ℕ) (blocks : List (List ℕ)) → inBlocks p held blocks ≡ inBlocks p (held ++ flatten blocks) []
+-- likewise where there is room for some of its records only
+some-joined : (n : ℕ) (p : Player) (xs ys : List ℕ)
+    → blockThen (playing n false p xs 0) (inBlocks (playing n false p xs 0 .player) (drop (playing n false p xs 0 .used) xs ++ ys) [])
+    ≡ inBlocks p (xs ++ ys) []
+some-joined n p xs ys =
+    let t : Transcript = playing n false p xs 0 in
+    let left : List ℕ = drop (t .used) xs in
+    let u : Transcript = transcript false (t .player) left in
+    let rest : Result = inBlocks (u .player) (drop (u .used) left ++ ys) [] in
+    ap (blockThen t) (sym (joined (t .player) left ys))
+    ∙ ap (λ (ls : List Line). record { lines = ls; player = rest .player }) (sym (append-assoc (t .lines) (u .lines) (rest .lines)))
+    ∙ ap (λ (l : List ℕ). blockThen (both t u) (inBlocks (u .player) (l ++ ys) [])) (drop-drop (u .used) (t .used) xs)
+    ∙ ap (λ (v : Transcript). blockThen v (inBlocks (v .player) (drop (v .used) xs ++ ys) [])) (in-parts n false p xs)
+    ∙ joined p xs ys
+
+blocks-joined : (p : Player) (held : List ℕ) (blocks : List Block)
+    → inBlocks p held blocks ≡ inBlocks p (held ++ flatten (map (λ (b : Block). b .bytes) blocks)) []
 unfolding inBlocks flatten
 blocks-joined p held [] = rw (append-nil held)
 blocks-joined p held (b ∷ bs) =
-    let t : Transcript = transcript false p (held ++ b) in
-    ap (blockThen t) (blocks-joined (t .player) (drop (t .used) (held ++ b)) bs)
-    ∙ joined p (held ++ b) (flatten bs)
-    ∙ ap (λ (l : List ℕ). inBlocks p l []) (append-assoc held b (flatten bs))
+    let t : Transcript = playing (b .room) false p (held ++ b .bytes) 0 in
+    let more : List ℕ = flatten (map (λ (b : Block). b .bytes) bs) in
+    ap (blockThen t) (blocks-joined (t .player) (drop (t .used) (held ++ b .bytes)) bs)
+    ∙ some-joined (b .room) p (held ++ b .bytes) more
+    ∙ ap (λ (l : List ℕ). inBlocks p l []) (append-assoc held (b .bytes) more)
 
 pub in-blocks : InBlocks
 in-blocks p blocks = blocks-joined p [] blocks

@@ -1,9 +1,9 @@
 -- Playing whole records, then what ends them: the lines are those of the calls, column by column.
 -- Assumes nothing.
-use Prim.Native.Nat.{ℕ, suc, _+_, _-_, _%_, _^_}
+use Prim.Native.Nat.{ℕ, _+_, _-_, _%_, _^_}
 use native.Mathlib.Omega.{arith}
 use mathlib.Core.Bool.{Bool, true, false, cond}
-use mathlib.Core.List.{List, [], _∷_, _++_, append-nil, map, map-append}
+use mathlib.Core.List.{List, [], _∷_, _++_, map}
 use mathlib.Core.Path.{_≡_, refl, sym, ap, ap₂, _∙_}
 use lib.ListN.{length, drop}
 use lib.Seq.{drop-drop, drop-append-seam}
@@ -22,7 +22,7 @@ use Rattle.player.specs.declared.Step.{Step}
 use Rattle.player.proofs.Playing.{from, from-is, enough}
 use Rattle.guarantees.specs.Guarantees.{answers, along}
 use Rattle.playback.specs.Format.{Records, none, one-more, Ending, complete, unknown, short, Ends}
-use Rattle.playback.specs.Playback.{kindOf, last, countFrom}
+use Rattle.playback.specs.Playback.{kindOf, countFrom}
 use Rattle.playback.proofs.Decoding.{record-item, endItem, end-item}
 
 -- ---- whole records

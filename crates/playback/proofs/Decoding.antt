@@ -1,11 +1,11 @@
 -- What the decoder finds where a record begins, and where a recording ends.
 -- Assumes nothing.
-use Prim.Native.Nat.{ℕ, zero, suc, _+_, _*_, _-_, _≤_, _<_}
+use Prim.Native.Nat.{ℕ, suc, _+_, _*_, _-_, _≤_}
 use native.Mathlib.Omega.{arith}
-use mathlib.Core.Bool.{Bool, true, false, cond, not}
-use mathlib.Core.List.{List, [], _∷_, _++_, append-nil}
-use mathlib.Core.Path.{_≡_, refl, sym, ap, ap₂, _∙_, subst}
-use lib.Dec.{leb, ltb}
+use mathlib.Core.Bool.{true, false, cond, not}
+use mathlib.Core.List.{List, [], _∷_, _++_}
+use mathlib.Core.Path.{_≡_, refl, sym, ap, _∙_}
+use lib.Dec.{ltb}
 use lib.ListN.{length, getD, drop, length-append, length-drop}
 use lib.Seq.{getD-drop, drop-drop}
 use borrow.Author.Tests.{le-leb, lt-leb, lt-ltb, le-ltb}
@@ -18,7 +18,7 @@ use Rattle.playback.specs.Format.{number, Record, power-on, clean-cut, t
 use Rattle.playback.specs.Playback.{kindOf}
 
 -- ---- by the bytes from a position on
-abbrev itemOf : ℕ → ℕ → List ℕ → Item
+abbrev pub itemOf : ℕ → ℕ → List ℕ → Item
 itemOf at kind body =
     cond (not (known kind)) (item.Unknown kind)
     (cond (ltb (length body) (bodyLength kind)) (item.Short kind) (item.Call kind (callOf kind body) (at + 1 + bodyLength kind)))
@@ -28,7 +28,7 @@ module _ (bytes : List ℕ) (at : ℕ) where
   unfolding itemAt
   no-item e = rw (le-leb (length bytes) at (omega (arith, ap length e, length-drop at bytes)))
 
-  some-item : (kind : ℕ) (body : List ℕ) → drop at bytes ≡ kind ∷ body → itemAt bytes at ≡ itemOf at kind body
+  pub some-item : (kind : ℕ) (body : List ℕ) → drop at bytes ≡ kind ∷ body → itemAt bytes at ≡ itemOf at kind body
   unfolding itemAt
   some-item kind body e =
       let left : length bytes - at ≡ suc (length body) = sym (length-drop at bytes) ∙ ap length e in

@@ -3,4 +3,6 @@ pub mod Decoding
 pub mod Recordings
 pub mod Columns
 pub mod AsCalls
+pub mod Printed
+pub mod Parts
 pub mod Blocks

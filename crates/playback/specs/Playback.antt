@@ -15,12 +15,13 @@ use Rattle.calls.specs.declared.Call.{Call}
 use Rattle.calls.specs.declared.Call.the-variants.{PowerOn, Cut, ResetPin, Frame, Tick, Lines, Sample}
 use Rattle.creation.specs.Creation.{blank, make}
 use Rattle.printout.specs.declared.Line.{Line}
-use Rattle.player.specs.Player.{started, Transcript, transcript, textOf}
+use Rattle.player.specs.Player.{started, Transcript, playing, transcript, textOf}
 use Rattle.player.specs.declared.Player.{Player}
 use Rattle.guarantees.specs.History.{Model, fresh, runModel, lineByHistory}
 use Rattle.guarantees.specs.Behaviour.{makeRefusal, answersByModel, alongModel}
 use Rattle.guarantees.specs.Guarantees.{answers, along}
 use Rattle.playback.specs.Format.{Ending, complete, unknown, short, Recording, encoded, Fits, All}
+use Rattle.playback.specs.Text.{Texts}
 
 -- ---- what a recording is
 -- every list of bytes records some calls and ends somehow, in one way only
@@ -115,22 +116,48 @@ exampleLines =
 abbrev pub Example : Type 0
 Example = textOf (play blank (0x01 ∷ 0x06 ∷ 0x02 ∷ 0x06 ∷ []) .lines) ≡ flatten exampleLines
 
--- ---- a recording that comes in blocks
--- its lines, and the player after it
+-- ---- a recording that is played by parts
+-- one part, then what is left
+abbrev pub both : Transcript → Transcript → Transcript
+both t u = record { lines = t .lines ++ u .lines; used = t .used + u .used; player = u .player }
+
+-- at most n records, as many as there is room for, then the rest of the bytes: they play as the whole does
+abbrev pub InParts : Type 0
+InParts = (n : ℕ) (last : Bool) (p : Player) (bytes : List ℕ)
+    → both (playing n last p bytes 0)
+    (transcript last (playing n last p bytes 0 .player) (drop (playing n last p bytes 0 .used) bytes))
+    ≡ transcript last p bytes
+
+-- a block of a recording, and for how many records there is room
+pub record Block : Type 0 where
+  pub bytes : List ℕ
+  pub room : ℕ
+
+-- what playing blocks leaves: their lines, and the player
 pub record Result : Type 0 where
   pub lines : List Line
   pub player : Player
 
--- what is left of a block goes before the next one; behind the last no bytes follow
 abbrev pub blockThen : Transcript → Result → Result
 blockThen t r = record { lines = t .lines ++ r .lines; player = r .player }
 
-unfoldable pub inBlocks : Player → (held : List ℕ) → (blocks : List (List ℕ)) → Result
+-- what is left of a block goes before the next one; behind the last no bytes follow
+unfoldable pub inBlocks : Player → (held : List ℕ) → List Block → Result
 inBlocks p held [] = record { lines = transcript true p held .lines; player = transcript true p held .player }
 inBlocks p held (b ∷ bs) =
-    blockThen (transcript false p (held ++ b))
-    (inBlocks (transcript false p (held ++ b) .player) (drop (transcript false p (held ++ b) .used) (held ++ b)) bs)
+    let t : Transcript = playing (b .room) false p (held ++ b .bytes) 0 in
+    blockThen t (inBlocks (t .player) (drop (t .used) (held ++ b .bytes)) bs)
 
--- wherever the blocks end, they play as the whole does
+-- wherever the blocks end, and however little room there is, they play as the whole does
 abbrev pub InBlocks : Type 0
-InBlocks = (p : Player) (blocks : List (List ℕ)) → inBlocks p [] blocks ≡ inBlocks p (flatten blocks) []
+InBlocks = (p : Player) (blocks : List Block)
+    → inBlocks p [] blocks ≡ inBlocks p (flatten (map (λ (b : Block). b .bytes) blocks)) []
+
+-- ---- a play as text
+-- as wide as a line's fields are
+abbrev pub Narrow : Line → Type 0
+Narrow l = (l .index < 2 ^ 64) × (l .kind < 2 ^ 8) × (l .refusal < 2 ^ 8)
+
+-- what is printed are the lines, character by character
+abbrev pub Printed : Type 0
+Printed = (lines : List Line) → All Narrow lines → Texts (textOf lines) lines

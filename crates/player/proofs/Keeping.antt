@@ -5,7 +5,7 @@ use native.Mathlib.Omega.{arith}
 use mathlib.Core.List.{List, _++_}
 use mathlib.Core.Path.{_≡_, refl, sym, ap, ap₂, _∙_}
 use lib.ListN.{length, getD, take, drop, set, length-set, length-take, length-drop, take-append-drop}
-use lib.Seq.{getD-set-same, getD-set-other, getD-take, getD-drop, ext-getD, sets, sets-eq}
+use lib.Seq.{getD-set-same, getD-set-other, getD-take, getD-drop, ext-getD, sets-eq}
 use borrow.Author.Count.{below-more}
 use Rattle.player.specs.Player.{Kept}
 

@@ -1,14 +1,14 @@
 -- Playing records one after the other: a step goes on, a block ends, and the loop that plays it.
 -- Assumes nothing.
-use Prim.Native.Nat.{ℕ, zero, suc, _+_, _*_, _-_, _≤_, _<_, min}
+use Prim.Native.Nat.{ℕ, zero, suc, _+_, _*_, _-_, _/_, _≤_, _<_}
 use native.Mathlib.Omega.{arith}
-use mathlib.Core.Bool.{Bool, true, false, cond, not, _&&_}
+use mathlib.Core.Bool.{Bool, true, false, cond, not}
 use mathlib.Core.List.{List, [], _∷_, _++_, append-nil, append-assoc}
-use mathlib.Core.Path.{_≡_, refl, sym, ap, _∙_, subst}
+use mathlib.Core.Path.{_≡_, refl, sym, ap, _∙_}
 use lib.Dec.{eqb, leb, ltb}
-use lib.ListN.{length, getD, take, drop}
+use lib.ListN.{length, getD, drop}
 use borrow.Author.Tests.{leb-true, leb-false, ltb-true, ltb-false, le-leb}
-use lib.Seq.{length-sets, take-all}
+use lib.Seq.{length-sets}
 use Rattle.io.proofs.Counting.{counts}
 use Rattle.printout.specs.Line.{lineText, longest, Put, Written}
 use Rattle.printout.specs.declared.Line.{Line}
@@ -16,12 +16,11 @@ use Rattle.printout.proofs.Text.{then, with-room}
 use Rattle.recording.specs.Recording.{known, bodyLength, callOf, itemAt}
 use Rattle.recording.specs.declared.Item.{Item}
 use Rattle.recording.specs.declared.Item.the-variants as item
-use Rattle.player.specs.Player.{stepBy, stepAt, still, Transcript, stopped, before, go-on, playing, transcript, transcriptWithin, textOf, Plays}
+use Rattle.player.specs.Player.{stepBy, stepAt, still, Transcript, stopped, before, go-on, playing, textOf, Plays}
 use Rattle.player.specs.declared.Player.{Player}
 use Rattle.player.specs.declared.Shown.{Shown}
 use Rattle.player.specs.declared.Shown.the-variants as shown
 use Rattle.player.specs.declared.Step.{Step}
-use Rattle.player.specs.declared.Played.{Played}
 
 -- ---- one step
 -- a body has at most 8 bytes
@@ -159,78 +158,65 @@ text-append (k ∷ ls) l = rw (text-append ls l) (sym (append-assoc (lineText k)
 pub before-before : (ls : List Line) (l : Line) (t : Transcript) → before ls (before (l ∷ []) t) ≡ before (ls ++ l ∷ []) t
 before-before ls l t = ap (λ (ks : List Line). record { lines = ks; used = t .used; player = t .player }) (sym (append-assoc ls (l ∷ []) (t .lines)))
 
--- some lines are written, and the rest is to be played from a position on
-pub record Playing (p₀ : Player) (block : List ℕ) (last : Bool) (out₀ : List ℕ) (p : Player) (out : List ℕ) (at written : ℕ) : Type 0 where
+-- some lines are written, and so many records more are to be played from a position on
+pub record Playing (p₀ : Player) (block : List ℕ) (last : Bool) (out₀ : List ℕ) (p : Player) (out : List ℕ) (at written room : ℕ) : Type 0 where
   pub lines : List Line
-  pub within : at ≤ length block
-  pub room : written ≤ at * longest
+  pub fits : written + room * longest ≤ length out₀
   pub sized : length out ≡ length out₀
   pub put : Put (textOf lines) out₀ 0 out written
-  pub rest : transcript last p₀ block ≡ before lines (from last p block at)
+  pub rest : playing (length out₀ / longest) last p₀ block 0 ≡ before lines (playing room last p block at)
 
-pub none : (p : Player) (block : List ℕ) (last : Bool) (out : List ℕ) → Playing p block last out p out 0 0
+pub none : (p : Player) (block : List ℕ) (last : Bool) (out : List ℕ) → Playing p block last out p out 0 0 (length out / longest)
 none p block last out =
     record {
       lines = [];
-      within = omega arith;
-      room = omega arith;
+      fits = omega arith;
       sized = refl;
       put = record { bytes = refl; ends = refl };
-      rest = enough (length block) (length block - 0) last p block 0 (omega arith) (omega arith);
+      rest = refl;
     }
 
-module _ (p₀ : Player) (block : List ℕ) (last : Bool) (out₀ : List ℕ) (p : Player) (out : List ℕ) (at written : ℕ)
-    (h : Playing p₀ block last out₀ p out at written) (s : Step) (is : s ≡ stepAt last p block at) where
-  on : Onward p at (length block) (s .player) (s .shown)
-  on = rw is (onward last p block at)
-
-  step-is : from last p block at ≡ go-on (s .shown) (stopped p at) (from last (s .player) block)
-  step-is = rw is (from-is last p block at)
-
-  pub ahead : {l : Line} {next : ℕ} → s .shown ≡ shown.Line l next → (at < next) × (next ≤ length block)
-  ahead e = rw e at on
-
-  pub more : {l : Line} {next : ℕ} {out′ : List ℕ} {written′ : ℕ} → s .shown ≡ shown.Line l next
-      → Written (lineText l) out written out′ written′ → length block * longest ≤ length out₀
-      → Playing p₀ block last out₀ (s .player) out′ next written′
-  more {l} {next} {out′} {written′} e w fits =
-      let a = ahead e in
-      let put : Put (lineText l) out written out′ written′ = with-room (omega (arith, h .room, h .sized)) w in
-      record {
-        lines = h .lines ++ l ∷ [];
-        within = a .1;
-        room = omega (arith, h .room, w .short);
-        sized = ap length (put .bytes) ∙ length-sets out written (lineText l) ∙ h .sized;
-        put = rw (text-append (h .lines) l) (then (h .put) put);
-        rest = h .rest ∙ ap (before (h .lines)) (rw e at step-is) ∙ before-before (h .lines) l (from last (s .player) block next);
-      }
-
-  pub whole : s .shown ≡ shown.Nothing → length block * longest ≤ length out₀
-      → Plays (transcript last p₀ block) out₀ out (record { player = s .player; used = at; written = written })
-  whole e fits =
-      let done : transcript last p₀ block ≡ before (h .lines) (stopped p at) = h .rest ∙ ap (before (h .lines)) (rw e at step-is) in
-      rw (done, append-nil (h .lines))
+module _ (p₀ : Player) (block : List ℕ) (last : Bool) (out₀ : List ℕ) (p : Player) (out : List ℕ) (at written room : ℕ)
+    (h : Playing p₀ block last out₀ p out at written room) where
+  -- nothing more is played
+  whole : {q : Player} → q ≡ p → playing room last p block at ≡ stopped p at
+      → Plays (playing (length out₀ / longest) last p₀ block 0) out₀ out (record { player = q; used = at; written = written })
+  whole same done =
+      rw (h .rest, done, append-nil (h .lines))
       (record {
-        player = (rw e at on) .0;
+        player = same;
         used = refl;
         written = omega (arith, h .put .ends);
         bytes = h .put .bytes;
-        fits = counts written out (omega (arith, h .room, h .within, h .sized));
+        fits = counts written out (omega (arith, h .fits, h .sized));
       })
 
--- ---- as much of a block as there is room for
-pub take-least : (s : List ℕ) (n : ℕ) → take (min (length s) n) s ≡ take n s
-take-least s n = go (leb (length s) n) refl
-  where
-    go : (b : Bool) → leb (length s) n ≡ b → take (min (length s) n) s ≡ take n s
-    go true e =
-        let all : length s ≤ n = leb-true (length s) n e in
-        take-all (min (length s) n) s (omega arith) ∙ sym (take-all n s all)
-    go false e =
-        let some : min (length s) n ≡ n = omega (arith, leb-false (length s) n e) in
-        rw some
+  pub spent : room ≤ 0 → Plays (playing (length out₀ / longest) last p₀ block 0) out₀ out (record { player = p; used = at; written = written })
+  unfolding playing
+  spent n = whole refl (let z : room ≡ 0 = omega arith in ap (λ (n : ℕ). playing n last p block at) z)
 
--- where there is room for all of it, and the play goes on, at most 8 bytes are left
-pub few-left : (room : ℕ) (last : Bool) (p : Player) (block : List ℕ) → length block ≤ room
-    → transcriptWithin room last p block .player .over ≡ false → length block ≤ transcriptWithin room last p block .used + 8
-few-left room last p block h = rw (take-all room block h) (left-over (length block) (last && leb (length block) room) p block 0 (omega arith))
+  module _ (s : Step) (is : s ≡ stepAt last p block at) (some : 0 < room) where
+    step-is : playing room last p block at ≡ go-on (s .shown) (stopped p at) (λ next. playing (room - 1) last (s .player) block next)
+    unfolding playing
+    step-is =
+        let n : room ≡ suc (room - 1) = omega arith in
+        ap (λ (n : ℕ). playing n last p block at) n
+        ∙ ap (λ (s : Step). go-on (s .shown) (stopped p at) (λ next. playing (room - 1) last (s .player) block next)) (sym is)
+
+    pub more : {l : Line} {next : ℕ} {out′ : List ℕ} {written′ : ℕ} → s .shown ≡ shown.Line l next
+        → Written (lineText l) out written out′ written′ → Playing p₀ block last out₀ (s .player) out′ next written′ (room - 1)
+    more {l} {next} {out′} {written′} e w =
+        let put : Put (lineText l) out written out′ written′ = with-room (omega (arith, h .fits, h .sized)) w in
+        record {
+          lines = h .lines ++ l ∷ [];
+          fits = omega (arith, h .fits, w .short);
+          sized = ap length (put .bytes) ∙ length-sets out written (lineText l) ∙ h .sized;
+          put = rw (text-append (h .lines) l) (then (h .put) put);
+          rest = h .rest ∙ ap (before (h .lines)) (rw e at step-is) ∙ before-before (h .lines) l (playing (room - 1) last (s .player) block next);
+        }
+
+    pub ended : s .shown ≡ shown.Nothing
+        → Plays (playing (length out₀ / longest) last p₀ block 0) out₀ out (record { player = s .player; used = at; written = written })
+    ended e =
+        let on : Onward p at (length block) (s .player) (s .shown) = rw is (onward last p block at) in
+        whole ((rw e at on) .0) (rw e at step-is)

@@ -1,10 +1,9 @@
 -- Playing a bench recording, record by record. Document 02, P1.
 -- Assumes nothing.
 use Prim.Native.Nat.{ℕ, zero, suc, _+_, _%_, _^_}
-use mathlib.Core.Bool.{Bool, true, false, cond, _&&_}
+use mathlib.Core.Bool.{Bool, true, false, cond}
 use mathlib.Core.List.{List, [], _∷_, _++_}
 use mathlib.Core.Path.{_≡_}
-use lib.Dec.{leb}
 use lib.ListN.{length, take, drop}
 use lib.Seq.{sets}
 use Rattle.xenpak.specs.declared.Module.{Module}
@@ -90,10 +89,6 @@ playing (suc n) last p bytes at =
 -- all of them: each has a byte at least
 abbrev pub transcript : (last : Bool) → Player → List ℕ → Transcript
 transcript last p bytes = playing (length bytes) last p bytes 0
-
--- of a block, as many bytes as there is surely room for lines; where that is not all of it, more bytes follow
-abbrev pub transcriptWithin : (room : ℕ) (last : Bool) → Player → List ℕ → Transcript
-transcriptWithin room last p block = transcript (last && leb (length block) room) p (take room block)
 
 -- the lines as text
 abbrev pub textOf : List Line → List ℕ

@@ -1,10 +1,10 @@
 // Plays a bench recording on a module: one record at a time, or a block of them with their lines as text.
 ghost use mathlib.Core.Path.{_≡_};
-ghost use Prim.Native.Nat.{_*_, _/_, _≤_, min};
+ghost use Prim.Native.Nat.{_/_, min};
 ghost use lib.ListN.{length};
 ghost use Rattle.creation.specs.Creation.{blank};
 ghost use Rattle.printout.specs.Line.{longest};
-ghost use Rattle.player.specs.Player.{started, shows, played, ended, still, stepAt, transcript, transcriptWithin, Plays, Kept};
+ghost use Rattle.player.specs.Player.{started, shows, played, ended, still, stepAt, playing, Plays, Kept};
 use calls::Call;
 use creation::make;
 use printout::LONGEST;
@@ -22,7 +22,7 @@ mod refusal;
 pub struct Player {
     // The module that is played on.
     pub unit: Module,
-    // The next record's.
+    // The next record's index.
     pub index: u64,
     // A record was refused with 9 or 10, and was the last.
     pub over: bool,
@@ -140,14 +140,14 @@ impl Player {
         }
     }
 
-    // Plays the whole records of a block and writes their lines.
-    fn play_all(mut self, block: &[u8], last: bool, out: &mut [u8]) -> Played
-        requires { ⌜ length (now block) * longest ≤ length (now out) ⌝ }
-        ensures { λ r. ⌜ Plays (transcript last self (now (block .entry))) (now (out .entry)) (now (out .exit)) r ⌝ }
+    // Plays whole records of a block, as many as there is surely room for, and writes their lines.
+    pub fn play(mut self, block: &[u8], last: bool, out: &mut [u8]) -> Played
+        ensures { λ r. ⌜ Plays (playing (length (now (out .entry)) / longest) last self (now (block .entry)) 0) (now (out .entry)) (now (out .exit)) r ⌝ }
     {
         let mut at = 0;
         let mut written = 0;
-        loop {
+        let mut room = out.len() / LONGEST;
+        while room > 0 {
             let step = self.step(block, at, last);
             self = step.player;
             let shown = step.shown;
@@ -155,25 +155,18 @@ impl Player {
                 Shown::Line(line, next) => {
                     written = line.write(out, written);
                     at = next;
+                    room -= 1;
                 }
                 Shown::Nothing => {
-                    return Played {
-                        player: self,
-                        used: at,
-                        written: written,
-                    };
+                    break;
                 }
             }
         }
-    }
-
-    // Plays the whole records of a block, as far as there is surely room for their lines, and writes the lines.
-    pub fn play(self, block: &[u8], last: bool, out: &mut [u8]) -> Played
-        ensures { λ r. ⌜ Plays (transcriptWithin (length (now (out .entry)) / longest) last self (now (block .entry))) (now (out .entry)) (now (out .exit)) r ⌝ }
-    {
-        let room = out.len() / LONGEST;
-        let end = least(block.len(), room);
-        self.play_all(&block[..end], last & (block.len() <= room), out)
+        Played {
+            player: self,
+            used: at,
+            written: written,
+        }
     }
 }
 

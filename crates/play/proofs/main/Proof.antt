@@ -3,9 +3,9 @@
 use Prim.Native.Nat.{_≤_}
 use mathlib.Core.Path.{_≡_}
 use lib.ListN.{length}
-use native.Mathlib.Omega.{arith}
 use borrow.Author.Needs.{needs}
 use borrow.Author.Tests.{not-false}
+use Rattle.play.proofs.Turns.{few}
 use Rattle.play.proofs.main.Statement.{statement}
 use Rattle.play.proofs.main.Tie as tie
 
@@ -23,5 +23,5 @@ main-spec =
     (λ c. search needs)
     (λ c. search needs)
     (λ c. search needs)
-    (λ c. (c .before .before .before .before .before .turn .ensures (not-false _ (c .before .if1 .left)), search needs, search needs))
+    (λ c. (few (c .before .before .before .before .before .turn .ensures) (not-false _ (c .before .if1 .left)), search needs, search needs))
     (λ c. search needs))

@@ -1,10 +1,9 @@
--- `play::played` meets its contract: there is room for all lines of the block, so that few bytes of it are left.
+-- `play::played` meets its contract: there is room for all lines of the block.
 -- Assumes nothing.
-use mathlib.Core.Bool.{not, _&&_}
 use mathlib.Core.Path.{sym}
 use lib.Seq.{length-take-le}
 use borrow.Author.Needs.{needs}
-use Rattle.play.proofs.Held.{held}
+use Rattle.play.proofs.Turns.{block-played}
 use Rattle.play.proofs.played.Statement.{statement}
 use Rattle.play.proofs.played.Tie as tie
 
@@ -27,5 +26,5 @@ played-spec =
     let printed = c .before .before .before .before .before .before in
     let block = printed .before .before .before .before .before in
     let start = block .before .before .before .before .before in
-    held (start .args .player) _ _ _ _ _ _ (start .args .last) (printed .write-all .result && not (start .args .last)) _ (start .pre .0)
-    (start .pre .1) (block .play .ensures) (c .before .before .before .keep .ensures)))
+    block-played (start .args .player) _ _ _ _ _ _ (start .args .last) (printed .write-all .result) _ (start .pre .0) (start .pre .1)
+    (block .play .ensures) (c .before .before .before .keep .ensures)))

@@ -1,7 +1,6 @@
 -- `printout::put_text` meets its contract: each turn puts one character.
 -- Assumes nothing.
 use Prim.Native.Nat.{_-_}
-use native.Mathlib.Omega.{arith}
 use lib.ListN.{length}
 use borrow.Author.Needs.{needs}
 use Rattle.printout.proofs.Text.{Putting, none, more, whole}

@@ -1,0 +1,2 @@
+-- What the contracts of `play` cite.
+pub mod Turn
