@@ -59,7 +59,7 @@ refusal-of n h = go (eqb n 0) refl
   where
     go : (b : Bool) → eqb n 0 ≡ b → Refusal (cond b (line.dash ∷ []) (decimal n)) n
     go true e = let z : n ≡ 0 = eqb-true n 0 e in rw z dash
-    go false e = numbered (number-of n (omega arith)) (let some = eqb-false n 0 e in omega arith)
+    go false e = numbered {n = n} (number-of n (omega arith)) (let some = eqb-false n 0 e in omega arith)
 
 level-of : (alarm : Bool) → Level (alarmDigit alarm) alarm
 level-of true = up
