@@ -3,6 +3,7 @@ pub mod Decoding
 pub mod Recordings
 pub mod Columns
 pub mod AsCalls
+pub mod Widths
 pub mod Printed
 pub mod Parts
 pub mod Blocks

@@ -1,10 +1,10 @@
--- The characters of a line say what the line does.
+-- What a play prints says what its lines do.
 -- Assumes nothing.
 use Prim.Native.Nat.{ℕ, zero, suc, _+_, _*_, _-_, _/_, _%_, _^_, _≤_, _<_}
 use native.Mathlib.Nat.{pow-suc}
 use native.Mathlib.Omega.{arith}
 use mathlib.Core.Bool.{Bool, true, false, cond}
-use mathlib.Core.List.{[], _∷_, _++_}
+use mathlib.Core.List.{List, [], _∷_, _++_}
 use mathlib.Core.Path.{_≡_, refl, subst}
 use lib.Dec.{eqb, ltb}
 use borrow.Author.Tests.{lt-ltb, ltb-true, ltb-false, eqb-true, eqb-false}
@@ -12,8 +12,12 @@ use Rattle.io.specs.Digits.{glyph}
 use Rattle.printout.specs.Line.{digitsWithin, decimal, refusalText, alarmDigit, lineText}
 use Rattle.printout.specs.Line as line
 use Rattle.printout.specs.declared.Line.{Line}
-use Rattle.playback.specs.Text.{Decimal, digit, digits, Hexadecimal, figure, letter, Refusal, dash, numbered, Level, down, up, Text, line, none, one-more}
-use Rattle.playback.specs.Playback.{Narrow, Printed}
+use Rattle.player.specs.Player.{textOf}
+use Rattle.playback.specs.Text.{Decimal, digit, digits, Hexadecimal, figure, letter, Refusal, dash, numbered, Level, down, up, Text, line, Texts}
+use Rattle.playback.specs.Text as text
+use Rattle.playback.specs.Format.{All}
+use Rattle.playback.specs.Playback.{play, Printed}
+use Rattle.playback.proofs.Widths.{Narrow, narrow}
 
 -- ---- numbers
 last-digit : (n : ℕ) → glyph (n % 10) ≡ 0x30 + n % 10
@@ -73,6 +77,9 @@ text-of l w =
     (line (number-of (l .index) (w .0)) (hexadecimal-of (l .kind / 16) (omega (arith, w .1)))
     (hexadecimal-of (l .kind % 16) (omega arith)) (refusal-of (l .refusal) (w .2)) (level-of (l .alarm)))
 
+texts-of : (ls : List Line) → All Narrow ls → Texts (textOf ls) ls
+texts-of [] w = text.none
+texts-of (l ∷ ls) w = text.one-more (text-of l (w .0)) (texts-of ls (w .1))
+
 pub printed : Printed
-printed [] w = none
-printed (l ∷ ls) w = one-more (text-of l (w .0)) (printed ls (w .1))
+printed m bytes b = texts-of (play m bytes .lines) (narrow m bytes b)

@@ -19,7 +19,7 @@ use Rattle.recording.specs.Recording.{known, bodyLength, itemAt}
 use Rattle.recording.proofs.KnownKinds.{bounds}
 use Rattle.recording.specs.declared.Item.{Item}
 use Rattle.recording.specs.declared.Item.the-variants as item
-use Rattle.playback.specs.Format.{Record, power-on, clean-cut, torn-cut, reset, frame, tick, sample, lines, Records, none, one-more, Ending, complete, unknown, short, Ends, at-end, at-unknown, in-body, Recording, number, word, levelBits, encode, encoded, Signed16, Fits, All}
+use Rattle.playback.specs.Format.{Record, power-on, clean-cut, torn-cut, reset, frame, tick, sample, lines, Records, none, one-more, Ending, complete, unknown, short, Ends, at-end, at-unknown, in-body, Recording, number, word, levelBits, encode, encoded, Signed16, Fits, Byte, All}
 use Rattle.playback.specs.Playback.{kindOf, EveryRecording, EveryCall}
 use Rattle.playback.proofs.Decoding.{record-item, endItem, end-item}
 
@@ -184,9 +184,6 @@ encoded-records [] f = none []
 encoded-records (c ∷ cs) f = one-more (encode-record c (f .0)) (encoded-records cs (f .1))
 
 -- its bytes
-abbrev Byte : ℕ → Type 0
-Byte b = b < 2 ^ 8
-
 bits-word : (t : ℤ) → Signed16 t → bitsOf t < 2 ^ 16
 bits-word (pos n) h = omega arith
 bits-word (negsuc n) h = omega arith
@@ -205,7 +202,7 @@ encode-bytes Tick f = omega arith
 encode-bytes (Sample s) f = omega (arith, bits-word (s .temperature) (f .0))
 encode-bytes (Lines l) f = omega (arith, level-most (l .signal) 4, level-most (l .block) 2, level-most (l .lanes) 1)
 
-all-append : (P : ℕ → Type 0) (xs ys : List ℕ) → All P xs → All P ys → All P (xs ++ ys)
+pub all-append : {A : Type 0} (P : A → Type 0) (xs ys : List A) → All P xs → All P ys → All P (xs ++ ys)
 all-append P [] ys p q = q
 all-append P (x ∷ xs) ys p q = (p .0, all-append P xs ys (p .1) q)
 

@@ -116,6 +116,10 @@ Fits Tick = Unit
 Fits (Sample s) = Signed16 (s .temperature) × (s .bias < 2 ^ 16) × (s .transmit < 2 ^ 16) × (s .receive < 2 ^ 16)
 Fits (Lines l) = (l .receive < 2 ^ 16) × (l .transmit < 2 ^ 16)
 
+-- a byte of a recording
+abbrev pub Byte : ℕ → Type 0
+Byte b = b < 2 ^ 8
+
 -- of each of a list
 abbrev pub All : {A : Type 0} → (A → Type 0) → List A → Type 0
 All P [] = Unit

@@ -1,6 +1,6 @@
 -- What is guaranteed of playing a bench recording (document 02, P1), over every list of bytes.
 -- Assumes nothing.
-use Prim.Native.Nat.{ℕ, zero, suc, _+_, _%_, _^_, _<_}
+use Prim.Native.Nat.{ℕ, zero, suc, _+_, _%_, _^_}
 use mathlib.Core.Bool.{Bool, true, false}
 use mathlib.Core.List.{List, [], _∷_, _++_, map, flatten}
 use mathlib.Core.Path.{_≡_}
@@ -20,7 +20,7 @@ use Rattle.player.specs.declared.Player.{Player}
 use Rattle.guarantees.specs.History.{Model, fresh, runModel, lineByHistory}
 use Rattle.guarantees.specs.Behaviour.{makeRefusal, answersByModel, alongModel}
 use Rattle.guarantees.specs.Guarantees.{answers, along}
-use Rattle.playback.specs.Format.{Ending, complete, unknown, short, Recording, encoded, Fits, All}
+use Rattle.playback.specs.Format.{Ending, complete, unknown, short, Recording, encoded, Fits, Byte, All}
 use Rattle.playback.specs.Text.{Texts}
 
 -- ---- what a recording is
@@ -36,7 +36,7 @@ EveryRecording = (bytes : List ℕ) → Told bytes
 
 -- every list of calls has a recording of its own, of bytes: played back it is that list, and no other list has the same
 pub record Recorded (calls : List Call) : Type 0 where
-  pub bytes : All (λ (b : ℕ). b < 2 ^ 8) (encoded calls)
+  pub bytes : All Byte (encoded calls)
   pub recording : Recording (encoded calls) calls complete
   pub own : (others : List Call) → All Fits others → encoded others ≡ encoded calls → others ≡ calls
 
@@ -104,18 +104,6 @@ pub record Blank : Type 0 where
   pub not-refused : makeRefusal 0 (replicate 256 0) (replicate 40 0) ≡ 0
   pub made : make 0 (replicate 256 0) (replicate 40 0) ≡ accepted blank
 
--- document 02's example: for the bytes 01 06 02 06 the program prints `0 01 - 0`, `1 06 - 0`, `2 02 - 0`, `3 06 7 0`
-abbrev pub exampleLines : List (List ℕ)
-exampleLines =
-    (0x30 ∷ 0x20 ∷ 0x30 ∷ 0x31 ∷ 0x20 ∷ 0x2d ∷ 0x20 ∷ 0x30 ∷ 0x0a ∷ [])
-    ∷ (0x31 ∷ 0x20 ∷ 0x30 ∷ 0x36 ∷ 0x20 ∷ 0x2d ∷ 0x20 ∷ 0x30 ∷ 0x0a ∷ [])
-    ∷ (0x32 ∷ 0x20 ∷ 0x30 ∷ 0x32 ∷ 0x20 ∷ 0x2d ∷ 0x20 ∷ 0x30 ∷ 0x0a ∷ [])
-    ∷ (0x33 ∷ 0x20 ∷ 0x30 ∷ 0x36 ∷ 0x20 ∷ 0x37 ∷ 0x20 ∷ 0x30 ∷ 0x0a ∷ [])
-    ∷ []
-
-abbrev pub Example : Type 0
-Example = textOf (play blank (0x01 ∷ 0x06 ∷ 0x02 ∷ 0x06 ∷ []) .lines) ≡ flatten exampleLines
-
 -- ---- a recording that is played by parts
 -- one part, then what is left
 abbrev pub both : Transcript → Transcript → Transcript
@@ -154,10 +142,18 @@ InBlocks = (p : Player) (blocks : List Block)
     → inBlocks p [] blocks ≡ inBlocks p (flatten (map (λ (b : Block). b .bytes) blocks)) []
 
 -- ---- a play as text
--- as wide as a line's fields are
-abbrev pub Narrow : Line → Type 0
-Narrow l = (l .index < 2 ^ 64) × (l .kind < 2 ^ 8) × (l .refusal < 2 ^ 8)
-
 -- what is printed are the lines, character by character
 abbrev pub Printed : Type 0
-Printed = (lines : List Line) → All Narrow lines → Texts (textOf lines) lines
+Printed = (m : Module) (bytes : List ℕ) → All Byte bytes → Texts (textOf (play m bytes .lines)) (play m bytes .lines)
+
+-- document 02's example: for the bytes 01 06 02 06 the program prints `0 01 - 0`, `1 06 - 0`, `2 02 - 0`, `3 06 7 0`
+abbrev pub exampleLines : List (List ℕ)
+exampleLines =
+    (0x30 ∷ 0x20 ∷ 0x30 ∷ 0x31 ∷ 0x20 ∷ 0x2d ∷ 0x20 ∷ 0x30 ∷ 0x0a ∷ [])
+    ∷ (0x31 ∷ 0x20 ∷ 0x30 ∷ 0x36 ∷ 0x20 ∷ 0x2d ∷ 0x20 ∷ 0x30 ∷ 0x0a ∷ [])
+    ∷ (0x32 ∷ 0x20 ∷ 0x30 ∷ 0x32 ∷ 0x20 ∷ 0x2d ∷ 0x20 ∷ 0x30 ∷ 0x0a ∷ [])
+    ∷ (0x33 ∷ 0x20 ∷ 0x30 ∷ 0x36 ∷ 0x20 ∷ 0x37 ∷ 0x20 ∷ 0x30 ∷ 0x0a ∷ [])
+    ∷ []
+
+abbrev pub Example : Type 0
+Example = textOf (play blank (0x01 ∷ 0x06 ∷ 0x02 ∷ 0x06 ∷ []) .lines) ≡ flatten exampleLines
