@@ -1,68 +1,83 @@
--- A block that is played, and bytes that are read behind those held.
+-- A block that is played, and the answer of a read.
 -- Assumes nothing.
-use Prim.Native.Nat.{ℕ, _+_, _/_, _≤_}
+use Prim.Native.Nat.{ℕ, _+_, _-_, _/_, _≤_, min}
 use native.Mathlib.Omega.{arith}
 use mathlib.Core.Bool.{Bool, true, false, not, _&&_}
-use mathlib.Core.List.{List, _++_}
-use mathlib.Core.Path.{_≡_, refl, sym, ap, ap₂, _∙_, subst}
+use mathlib.Core.List.{List}
+use mathlib.Core.Path.{_≡_, refl, sym, ap, _∙_, subst}
 use lib.Dec.{eqb}
-use lib.ListN.{length, take, drop, length-append, length-drop}
-use lib.Seq.{sets, sets-eq, length-take-le, take-append-seam, take-append-add}
-use borrow.Author.Tests.{not-true}
+use lib.IntN.{ℤ, pos, negsuc}
+use lib.ListN.{length, take, drop, length-drop}
+use lib.Seq.{sets, length-take-le}
+use lib.Signed.{ltZ}
+use borrow.Author.Tests.{not-true, ltb-true}
+use Rattle.io.specs.Counts.{Counts, clamped}
 use Rattle.printout.specs.Line.{longest}
 use Rattle.player.specs.Player.{Transcript, playing, transcript, Plays, Kept}
 use Rattle.player.specs.declared.Player.{Player}
-use Rattle.player.specs.declared.Played.{Played}
+use Rattle.player.specs.declared.Played as player
 use Rattle.player.proofs.Playing.{enough, left-over}
-use Rattle.play.specs.Turn.{Block, Turn, read, failed}
+use Rattle.play.specs.Turn.{Played, Turned, fails, comes}
 use Rattle.play.specs.declared.Progress.{Progress}
 
-both : (a b : Bool) → (a && b) ≡ true → (a ≡ true) × (b ≡ true)
-both true b e = (refl, e)
-both false b e = absurd (let n : _≡_ {A = ℕ} 0 1 = cc in omega arith)
-
-pub block-played : (p : Player) (input kept out out′ : List ℕ) (end n : ℕ) (last printed : Bool) (r : Played) → end ≤ length input
-    → length input ≤ length out / longest → Plays (playing (length out / longest) last p (take end input) 0) out out′ r
-    → Kept (r .used) end input kept n
-    → Block last p (take end input) out out′ kept (record { player = r .player; held = n; more = printed && not last && not (r .player .over) })
-block-played p input kept out out′ end n last printed r within room plays kept-is =
+-- ---- a block
+pub block-played : (p : Player) (input input′ output output′ : List ℕ) (end n : ℕ) (last : Bool) (r : player.Played) → end ≤ length input
+    → length input ≤ length output / longest → Plays (playing (length output / longest) last p (take end input) 0) output output′ r
+    → Kept (r .used) end input input′ n
+    → Played last p (take end input) input output input′ output′
+    (record { player = r .player; written = r .written; held = n; more = not last && not (r .player .over); failed = false })
+block-played p input input′ output output′ end n last r within room plays kept =
     let block : List ℕ = take end input in
     let size : length block ≡ end = length-take-le end input within in
     let t : Transcript = transcript last p block in
-    let all : playing (length out / longest) last p block 0 ≡ t =
-    enough (length out / longest) (length block) last p block 0 (omega arith) (omega arith) in
-    let plays-all : Plays t out out′ r = subst (λ (t : Transcript). Plays t out out′ r) all plays in
-    let left : List ℕ = drop (r .used) block in
-    let front : take (length left) (sets input 0 left) ≡ left =
-    ap (take (length left)) (sets-eq left input 0 (omega (arith, length-drop (r .used) block)))
-    ∙ take-append-seam left (drop (0 + length left) input) in
+    let all : playing (length output / longest) last p block 0 ≡ t =
+    enough (length output / longest) (length block) last p block 0 (omega arith) (omega arith) in
+    let whole : Plays t output output′ r = subst (λ (t : Transcript). Plays t output output′ r) all plays in
     record {
-      player = plays-all .player;
-      lines = plays-all .bytes;
-      held = ap₂ take (kept-is .counted) (kept-is .bytes) ∙ front ∙ ap (λ (n : ℕ). drop n block) (plays-all .used);
-      more =
-          λ m.
-          let on = both (printed && not last) (not (r .player .over)) m in
-          let over : r .player .over ≡ false = not-true (r .player .over) (on .1) in
-          let few = left-over (length block) last p block 0 (omega arith) (ap (λ (q : Player). q .over) (sym (plays-all .player)) ∙ over) in
-          (not-true last (both printed (not last) (on .0) .1), over, omega (arith, kept-is .counted, length-drop (r .used) block, plays-all .used));
+      player = whole .player;
+      left = kept .bytes ∙ ap (λ (k : ℕ). sets input 0 (drop k block)) (whole .used);
+      held = kept .counted ∙ ap (λ (k : ℕ). length (drop k block)) (whole .used);
+      lines = whole .bytes;
+      written = whole .written;
+      fits = whole .fits;
+      more = ap (λ (q : Player). not last && not (q .over)) (whole .player);
+      failed = refl;
     }
 
--- behind those held, the bytes that came
-pub bytes-read : {p : Player} {output after left : List ℕ} {r : Progress} (input came : List ℕ) (held count : ℕ) → held ≤ length input
-    → held + count ≤ length (take held input ++ came)
-    → Block (eqb count 0) p (take (held + count) (take held input ++ came)) output after left r
-    → Turn p (take held input) output after left r
-bytes-read {p} {output} {after} {left} {r} input came held count h c b =
-    let size : length (take held input) ≡ held = length-take-le held input h in
-    let many : length (take count came) ≡ count = length-take-le count came (omega (arith, length-append (take held input) came)) in
-    let is : take (held + count) (take held input ++ came) ≡ take held input ++ take count came =
-    ap (λ (n : ℕ). take (n + count) (take held input ++ came)) (sym size) ∙ take-append-add (take held input) came count in
-    read (take count came)
-    (subst (λ (n : ℕ). Block (eqb n 0) p (take held input ++ take count came) output after left r) (sym many)
-    (subst (λ (l : List ℕ). Block (eqb count 0) p l output after left r) is b))
+pub both : (a b : Bool) → (a && b) ≡ true → b ≡ true
+both true b e = e
+both false b e = absurd (let n : _≡_ {A = ℕ} 0 1 = cc in omega arith)
 
--- where the play goes on, few bytes are held
-pub few : {p : Player} {held output after left : List ℕ} {r : Progress} → Turn p held output after left r → r .more ≡ true → r .held ≤ 8
-few (read bytes b) m = b .more m .2
-few (failed same off) m = absurd (let n : _≡_ {A = ℕ} 0 1 = cc in omega arith)
+-- where more can follow, few bytes are left
+few-left : {last : Bool} {p : Player} {block input output input′ output′ : List ℕ} {r : Progress} → Played last p block input output input′ output′ r
+    → r .more ≡ true → r .held ≤ 8
+few-left {last} {p} {block} b m =
+    let over : transcript last p block .player .over ≡ false = not-true _ (both (not last) _ (sym (b .more) ∙ m)) in
+    omega (arith, b .held, length-drop (transcript last p block .used) block, left-over (length block) last p block 0 (omega arith) over)
+
+-- ---- the answer of a read
+module _ (p : Player) (held : ℕ) (input output : List ℕ) where
+  pub negative : (got : ℤ) → ltZ got (pos 0) ≡ true
+      → Turned p held input output input output got (record { player = p; written = 0; held = held; more = false; failed = true })
+  negative (pos n) e = absurd (omega (arith, ltb-true n 0 e))
+  negative (negsuc n) e = fails n refl refl
+
+  pub not-negative : {input′ output′ : List ℕ} {r : Progress} (got : ℤ) (count : ℕ) → ltZ got (pos 0) ≡ false
+      → count ≡ clamped got (length (take (length input - held) (drop held input)))
+      → Played (eqb count 0) p (take (held + count) input) input output input′ output′ r
+      → Turned p held input output input′ output′ got r
+  not-negative {input′} {output′} {r} (pos n) count e c b =
+      let room : length (take (length input - held) (drop held input)) ≡ length input - held = length-take-le (length input - held) (drop held input) (omega (arith, length-drop held input)) in
+      comes n (subst (λ (k : ℕ). Played (eqb k 0) p (take (held + k) input) input output input′ output′ r) (c ∙ ap (min n) room) b)
+  not-negative (negsuc n) count e c b = absurd (let z : _≡_ {A = ℕ} 0 1 = cc in omega arith)
+
+pub few : {p : Player} {held : ℕ} {input output input′ output′ : List ℕ} {got : ℤ} {r : Progress} → Turned p held input output input′ output′ got r
+    → r .more ≡ true → r .held ≤ 8
+few (fails n i o) m = absurd (let z : _≡_ {A = ℕ} 0 1 = cc in omega arith)
+few (comes n b) m = few-left b m
+
+-- the lines are at the front of the output
+pub fit : {p : Player} {held : ℕ} {input output input′ output′ : List ℕ} {got : ℤ} {r : Progress} → Turned p held input output input′ output′ got r
+    → Counts (r .written) output′
+fit (fails n i o) = (omega arith, refl)
+fit (comes n b) = b .fits

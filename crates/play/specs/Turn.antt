@@ -1,26 +1,35 @@
--- A turn of the program: bytes are read, played and their lines printed. Document 02, P1.
+-- A turn of the program: what a read brought is played. Document 02, P1.
 -- Assumes nothing.
-use Prim.Native.Nat.{ℕ, _≤_}
-use mathlib.Core.Bool.{Bool, true, false}
-use mathlib.Core.List.{List, _++_}
+use Prim.Native.Nat.{ℕ, _+_, _-_, min}
+use mathlib.Core.Bool.{Bool, true, false, not, _&&_}
+use mathlib.Core.List.{List}
 use mathlib.Core.Path.{_≡_}
 use lib.Dec.{eqb}
+use lib.IntN.{ℤ, pos, negsuc}
 use lib.ListN.{length, take, drop}
 use lib.Seq.{sets}
+use Rattle.io.specs.Counts.{Counts}
 use Rattle.player.specs.Player.{transcript, textOf}
 use Rattle.player.specs.declared.Player.{Player}
 use Rattle.play.specs.declared.Progress.{Progress}
 
--- a block is played: the player after it, its lines at the start of the output, what is left of it at the start of the input;
--- the play goes on only where more bytes follow and none was refused, and then few are left
-pub record Block (last : Bool) (p : Player) (block output after input : List ℕ) (r : Progress) : Type 0 where
+-- a block is played: what is left of it is at the front of the input, its lines are at the front of the output, which has room
+-- for them; more can follow where this was not the last and no record was refused
+pub record Played (last : Bool) (p : Player) (block input output input′ output′ : List ℕ) (r : Progress) : Type 0 where
   pub player : r .player ≡ transcript last p block .player
-  pub lines : after ≡ sets output 0 (textOf (transcript last p block .lines))
-  pub held : take (r .held) input ≡ drop (transcript last p block .used) block
-  pub more : r .more ≡ true → (last ≡ false) × (r .player .over ≡ false) × (r .held ≤ 8)
+  pub left : input′ ≡ sets input 0 (drop (transcript last p block .used) block)
+  pub held : r .held ≡ length (drop (transcript last p block .used) block)
+  pub lines : output′ ≡ sets output 0 (textOf (transcript last p block .lines))
+  pub written : r .written ≡ length (textOf (transcript last p block .lines))
+  pub fits : Counts (r .written) output′
+  pub more : r .more ≡ (not last && not (transcript last p block .player .over))
+  pub failed : r .failed ≡ false
 
--- bytes are read behind those that are held, and played; that there are none says that no more follow. Or the input fails,
--- nothing is played, and the play ends
-pub data Turn (p : Player) (held output after input : List ℕ) (r : Progress) : Type 0 where
-  read : (bytes : List ℕ) → Block (eqb (length bytes) 0) p (held ++ bytes) output after input r → Turn p held output after input r
-  failed : r .player ≡ p → r .more ≡ false → Turn p held output after input r
+-- by the answer of a read: negative, it failed, and nothing is played; else so many bytes came behind those held, no more than
+-- there is room for, and none says that no more follow
+pub data Turned (p : Player) (held : ℕ) (input output input′ output′ : List ℕ) : ℤ → Progress → Type 0 where
+  fails : (n : ℕ) → input′ ≡ input → output′ ≡ output
+      → Turned p held input output input′ output′ (negsuc n) (record { player = p; written = 0; held = held; more = false; failed = true })
+  comes : (n : ℕ) {r : Progress}
+      → Played (eqb (min n (length input - held)) 0) p (take (held + min n (length input - held)) input) input output input′ output′ r
+      → Turned p held input output input′ output′ (pos n) r

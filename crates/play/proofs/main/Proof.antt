@@ -5,7 +5,7 @@ use mathlib.Core.Path.{_≡_}
 use lib.ListN.{length}
 use borrow.Author.Needs.{needs}
 use borrow.Author.Tests.{not-false}
-use Rattle.play.proofs.Turns.{few}
+use Rattle.play.proofs.Turns.{both, few, fit}
 use Rattle.play.proofs.main.Statement.{statement}
 use Rattle.play.proofs.main.Tie as tie
 
@@ -13,15 +13,27 @@ pub main-spec : {M : Type 1} → statement M
 main-spec =
     tie.close
     (tie.spec
-    (λ input₀ output₀ player₀ held₀ turns₀ input output player held turns. (held ≤ 8) × (length input ≡ 8192) × (length output ≡ 245760))
-    (λ input₀ output₀ player₀ held₀ turns₀ input output player held turns. turns)
+    (λ input₀ output₀ player₀ held₀ turns₀ t9 t10 input output player held turns. (held ≤ 8) × (length input ≡ 8192) × (length output ≡ 245760))
+    (λ input₀ output₀ player₀ held₀ turns₀ t9 t10 input output player held turns. turns)
+    (λ c κs. search needs)
+    (λ c. search needs)
+    (λ c. search needs)
+    (λ c κs. search needs)
+    (λ c. search needs)
+    (λ c. search needs)
+    (λ c κs. search needs)
+    (λ c. search needs)
+    (λ c κs. search needs)
+    (λ c. fit (c .before .before .before .turn .ensures) .0)
+    (λ c. fit (c .before .before .before .before .turn .ensures) .1)
+    (λ c κs. search needs)
+    (λ c. search needs)
     (λ c κs. search needs)
     (λ c. search needs)
     (λ c. search needs)
     (λ c. search needs)
-    (λ c κs. search needs)
-    (λ c. search needs)
-    (λ c. search needs)
-    (λ c. search needs)
-    (λ c. (few (c .before .before .before .before .before .turn .ensures) (not-false _ (c .before .if1 .left)), search needs, search needs))
+    (λ c.
+    let print = c .before .before .before .before in
+    let turn = print .before .before .before .before .before in
+    (few (turn .turn .ensures) (both (print .write-all .result) _ (not-false _ (c .before .if3 .left))), search needs, search needs))
     (λ c. search needs))

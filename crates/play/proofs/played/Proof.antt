@@ -14,17 +14,11 @@ played-spec =
     (λ c. search needs)
     (λ c. sym (length-take-le _ _ (c .before .before .before .pre .0)))
     (λ c κs. search needs)
-    (λ c. search needs)
-    (λ c. search needs)
-    (λ c κs. search needs)
-    (λ c. search needs)
-    (λ c κs. search needs)
     (λ c κs. search needs)
     (λ c. search needs)
     (λ c. search needs)
     (λ c.
-    let printed = c .before .before .before .before .before .before in
-    let block = printed .before .before .before .before .before in
+    let block = c .before .before .before .before .before .before .before .before in
     let start = block .before .before .before .before .before in
-    block-played (start .args .player) _ _ _ _ _ _ (start .args .last) (printed .write-all .result) _ (start .pre .0) (start .pre .1)
-    (block .play .ensures) (c .before .before .before .keep .ensures)))
+    block-played (start .args .player) _ _ _ _ _ _ (start .args .last) _ (start .pre .0) (start .pre .1) (block .play .ensures)
+    (c .before .before .before .keep .ensures)))

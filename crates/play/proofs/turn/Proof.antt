@@ -1,13 +1,8 @@
--- `play::turn` meets its contract: what is read comes behind what is held.
+-- `play::turn` meets its contract: the sign of a read's answer tells, and it counts no bytes but those read.
 -- Assumes nothing.
-use Prim.Native.Nat.{_-_}
-use native.Mathlib.Omega.{arith}
-use mathlib.Core.List.{_++_}
-use mathlib.Core.Path.{refl}
-use lib.ListN.{length, drop}
 use borrow.Author.Needs.{needs}
-use Rattle.play.specs.Turn.{failed}
-use Rattle.play.proofs.Turns.{bytes-read}
+use mir.Facts.{toZ-ofZ}
+use Rattle.play.proofs.Turns.{negative, not-negative}
 use Rattle.play.proofs.turn.Statement.{statement}
 use Rattle.play.proofs.turn.Tie as tie
 
@@ -15,14 +10,9 @@ pub turn-spec : {M : Type 1} → statement M
 turn-spec =
     tie.close
     (tie.spec
-    (λ c. search needs)
-    (λ c. search needs)
-    (λ c. search needs)
-    (λ c κs. search needs)
-    (λ c. search needs)
-    (λ c κs. search needs)
-    (λ c. search needs)
-    (λ c. failed refl refl)
+    (λ c.
+    let start = c .before .before .before in
+    negative _ _ _ _ (start .args .got) (rw (toZ-ofZ (start .fits .got)) at (c .if1 .taken)))
     (λ c. search needs)
     (λ c. search needs)
     (λ c. search needs)
@@ -34,9 +24,8 @@ turn-spec =
     (λ c.
     let played = c .before .before .before .before in
     let count = played .before .before .before in
-    let came = count .before .before .before .before .before .before in
-    let start = came .before .before .before .before in
-    let input = start .args .input .now in
-    let held = start .args .held in
-    bytes-read input (came .read .last .1 .0 ++ drop (length input - held) (drop held input)) held (count .count .result) (omega (arith, start .pre))
-    (omega (arith, played .before)) (played .played .ensures)))
+    let test = count .before .before .before in
+    let start = test .before .before .before in
+    let is = toZ-ofZ (start .fits .got) in
+    not-negative _ (start .args .held) (start .args .input .now) _ (start .args .got) (count .count .result) (rw is at (test .if1 .left))
+    (rw is at (count .count .ensures .1)) (played .played .ensures)))
