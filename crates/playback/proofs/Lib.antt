@@ -4,6 +4,7 @@ pub mod Recordings
 pub mod Columns
 pub mod AsCalls
 pub mod Widths
+pub mod OneText
 pub mod Printed
 pub mod Parts
 pub mod Blocks

@@ -18,6 +18,7 @@ use Rattle.playback.specs.Text as text
 use Rattle.playback.specs.Format.{All}
 use Rattle.playback.specs.Playback.{play, Printed}
 use Rattle.playback.proofs.Widths.{Narrow, narrow}
+use Rattle.playback.proofs.OneText.{one-text}
 
 -- ---- numbers
 last-digit : (n : ℕ) → glyph (n % 10) ≡ 0x30 + n % 10
@@ -82,4 +83,6 @@ texts-of [] w = text.none
 texts-of (l ∷ ls) w = text.one-more (text-of l (w .0)) (texts-of ls (w .1))
 
 pub printed : Printed
-printed m bytes b = texts-of (play m bytes .lines) (narrow m bytes b)
+printed m bytes b =
+    let texts = texts-of (play m bytes .lines) (narrow m bytes b) in
+    record { texts = texts; only = λ text other. one-text other texts refl }

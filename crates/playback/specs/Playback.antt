@@ -129,22 +129,26 @@ pub record Result : Type 0 where
 abbrev pub blockThen : Transcript → Result → Result
 blockThen t r = record { lines = t .lines ++ r .lines; player = r .player }
 
--- what is left of a block goes before the next one; behind the last no bytes follow
+-- what is left of a block goes before the next one; behind the last no bytes follow, and all that is left is played
 unfoldable pub inBlocks : Player → (held : List ℕ) → List Block → Result
 inBlocks p held [] = record { lines = transcript true p held .lines; player = transcript true p held .player }
 inBlocks p held (b ∷ bs) =
     let t : Transcript = playing (b .room) false p (held ++ b .bytes) 0 in
     blockThen t (inBlocks (t .player) (drop (t .used) (held ++ b .bytes)) bs)
 
--- wherever the blocks end, and however little room there is, they play as the whole does
+-- wherever the blocks end, and however few records each has room for, they play as the whole does
 abbrev pub InBlocks : Type 0
 InBlocks = (p : Player) (blocks : List Block)
     → inBlocks p [] blocks ≡ inBlocks p (flatten (map (λ (b : Block). b .bytes) blocks)) []
 
 -- ---- a play as text
--- what is printed are the lines, character by character
+-- what is printed are the lines, character by character, in the one way that there is
+pub record Prints (lines : List Line) : Type 0 where
+  pub texts : Texts (textOf lines) lines
+  pub only : (text : List ℕ) → Texts text lines → text ≡ textOf lines
+
 abbrev pub Printed : Type 0
-Printed = (m : Module) (bytes : List ℕ) → All Byte bytes → Texts (textOf (play m bytes .lines)) (play m bytes .lines)
+Printed = (m : Module) (bytes : List ℕ) → All Byte bytes → Prints (play m bytes .lines)
 
 -- document 02's example: for the bytes 01 06 02 06 the program prints `0 01 - 0`, `1 06 - 0`, `2 02 - 0`, `3 06 7 0`
 abbrev pub exampleLines : List (List ℕ)
