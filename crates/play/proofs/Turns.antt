@@ -44,15 +44,16 @@ block-played p input input′ output output′ end n last r within room plays ke
       failed = refl;
     }
 
-pub both : (a b : Bool) → (a && b) ≡ true → b ≡ true
-both true b e = e
-both false b e = absurd (let n : _≡_ {A = ℕ} 0 1 = cc in omega arith)
+-- the second of two that hold
+pub second : (a b : Bool) → (a && b) ≡ true → b ≡ true
+second true b e = e
+second false b e = absurd (let n : _≡_ {A = ℕ} 0 1 = cc in omega arith)
 
 -- where more can follow, few bytes are left
 few-left : {last : Bool} {p : Player} {block input output input′ output′ : List ℕ} {r : Progress} → Played last p block input output input′ output′ r
     → r .more ≡ true → r .held ≤ 8
 few-left {last} {p} {block} b m =
-    let over : transcript last p block .player .over ≡ false = not-true _ (both (not last) _ (sym (b .more) ∙ m)) in
+    let over : transcript last p block .player .over ≡ false = not-true _ (second (not last) _ (sym (b .more) ∙ m)) in
     omega (arith, b .held, length-drop (transcript last p block .used) block, left-over (length block) last p block 0 (omega arith) over)
 
 -- ---- the answer of a read
@@ -71,12 +72,13 @@ module _ (p : Player) (held : ℕ) (input output : List ℕ) where
       comes n (subst (λ (k : ℕ). Played (eqb k 0) p (take (held + k) input) input output input′ output′ r) (c ∙ ap (min n) room) b)
   not-negative (negsuc n) count e c b = absurd (let z : _≡_ {A = ℕ} 0 1 = cc in omega arith)
 
+-- what it leaves: few bytes where more can follow
 pub few : {p : Player} {held : ℕ} {input output input′ output′ : List ℕ} {got : ℤ} {r : Progress} → Turned p held input output input′ output′ got r
     → r .more ≡ true → r .held ≤ 8
 few (fails n i o) m = absurd (let z : _≡_ {A = ℕ} 0 1 = cc in omega arith)
 few (comes n b) m = few-left b m
 
--- the lines are at the front of the output
+-- and its lines within the output
 pub fit : {p : Player} {held : ℕ} {input output input′ output′ : List ℕ} {got : ℤ} {r : Progress} → Turned p held input output input′ output′ got r
     → Counts (r .written) output′
 fit (fails n i o) = (omega arith, refl)

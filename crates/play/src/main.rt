@@ -26,7 +26,7 @@ struct Progress {
     failed: bool,
 }
 
-// Plays the input up to its end.
+// Plays the bytes of the input before `end`.
 fn played(player: Player, input: &mut [u8], end: usize, last: bool, output: &mut [u8]) -> Progress
     requires { ⌜ end ≤ length (now input) ⌝ }
     requires { ⌜ length (now input) ≤ length (now output) / longest ⌝ }

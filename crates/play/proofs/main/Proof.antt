@@ -5,7 +5,7 @@ use mathlib.Core.Path.{_≡_}
 use lib.ListN.{length}
 use borrow.Author.Needs.{needs}
 use borrow.Author.Tests.{not-false}
-use Rattle.play.proofs.Turns.{both, few, fit}
+use Rattle.play.proofs.Turns.{second, few, fit}
 use Rattle.play.proofs.main.Statement.{statement}
 use Rattle.play.proofs.main.Tie as tie
 
@@ -35,5 +35,5 @@ main-spec =
     (λ c.
     let print = c .before .before .before .before in
     let turn = print .before .before .before .before .before in
-    (few (turn .turn .ensures) (both (print .write-all .result) _ (not-false _ (c .before .if3 .left))), search needs, search needs))
+    (few (turn .turn .ensures) (second (print .write-all .result) _ (not-false _ (c .before .if3 .left))), search needs, search needs))
     (λ c. search needs))
