@@ -1,4 +1,4 @@
--- A recording plays as its calls do; on a module that creation accepts (document 01: making), as the independent model has it.
+-- A recording plays as its calls do; on a module that creation accepts, as the independent model has it.
 -- Assumes nothing.
 use Prim.Native.Nat.{ℕ}
 use mathlib.Core.Bool.{Bool, true, false}
