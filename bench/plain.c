@@ -266,7 +266,10 @@ uint32_t plain_lines(struct xenpak_module *m, struct xenpak_lines given) {
     return 0;
 }
 
-int16_t plain_tenths(int16_t code) { return code * 10 / 256; }
+int16_t plain_tenths(int16_t code) {
+    int32_t down = code * 10 >> 8, rest = code * 10 & 255;
+    return down + (rest > 128 || (rest == 128 && down & 1));
+}
 
 static int32_t unsigned_code(const uint8_t *bytes) { return bytes[0] << 8 | bytes[1]; }
 

@@ -463,7 +463,7 @@ pub extern "C" fn rust_stored(m: &Module, offset: u8) -> u8 {
 
 #[no_mangle]
 pub extern "C" fn rust_tenths(code: i16) -> i16 {
-    (code as i32 * 10 / 256) as i16
+    (code as f64 * 10.0 / 256.0).round_ties_even() as i16
 }
 
 fn ordered<T: PartialOrd>(row: [T; 4]) -> bool {

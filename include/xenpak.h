@@ -188,7 +188,7 @@ uint16_t xenpak_counter(struct xenpak_module m);
    Never refused. */
 uint8_t xenpak_stored(struct xenpak_module m, uint8_t offset);
 
-/* A temperature code in tenths of a degree, code x 10 / 256, toward zero.
+/* A temperature code in tenths of a degree: code x 10 / 256 to the nearest tenth, a half to the even one.
    Needs no record. */
 int16_t xenpak_tenths(int16_t code);
 

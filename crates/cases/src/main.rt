@@ -2,6 +2,7 @@
 mod bench;
 mod play;
 mod print;
+mod readout;
 mod sheet;
 
 use libc::STDIN_FILENO;

@@ -5,11 +5,13 @@ use crate::bench::fresh;
 use crate::print::answered;
 use crate::print::number;
 use crate::print::settled;
+use crate::print::signed;
 use crate::print::text;
 use crate::sheet::*;
 use alarms::Lines;
 use calls::Call;
 use dom::Sample;
+use dom::readout::tenths;
 use dom::signed_code;
 use reads::alarm_line;
 use reads::counter;
@@ -151,6 +153,8 @@ fn look(m: Module, step: Step) {
         COUNT => number(counter(m) as u32),
         STORED => crate::print::word(stored(m, (decimal(step.first) % 256) as u8) as u16),
         CHANGED => number(changed(m)),
+        TENTHS => signed(tenths(signed_code((step.first % 0x1_0000) as u16))),
+        NEAREST | EVENS => number(crate::readout::count(word)),
         MARK | BACK | IMAGE | CODES => {}
         _ => text(b"=?"),
     }

@@ -1,4 +1,5 @@
 // What a step gave, behind an equals sign.
+use crate::readout::size;
 use answers::Answer;
 use answers::FrameAnswer;
 use answers::Refusal;
@@ -21,6 +22,12 @@ pub fn word(n: u16) {
 pub fn number(n: u32) {
     text(b"=");
     io::print_decimal(STDOUT_FILENO, n as u64);
+}
+
+// A decimal number with its sign.
+pub fn signed(n: i16) {
+    text(if n < 0 { b"=-" } else { b"=" });
+    io::print_decimal(STDOUT_FILENO, size(n) as u64);
 }
 
 // Document 01's number of a refusal.

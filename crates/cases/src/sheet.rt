@@ -59,6 +59,12 @@ pub const STORED: u64 = 0x7374_6f72_6564;
 
 pub const CHANGED: u64 = 0x63_6861_6e67_6564;
 
+pub const TENTHS: u64 = 0x7465_6e74_6873;
+
+pub const NEAREST: u64 = 0x6e_6561_7265_7374;
+
+pub const EVENS: u64 = 0x65_7665_6e73;
+
 // What the latest byte is part of.
 const GAP: u8 = 0;
 
@@ -109,6 +115,7 @@ fn numbers_of(word: u64) -> u8 {
         | SETTLE
         | COUNTED
         | STORED
+        | TENTHS
         | MAKE => 1,
         WRITE | WALK | IMAGE => 2,
         LINES | CODES => 3,

@@ -1,27 +1,84 @@
--- The readout's product fits an i32, and its quotient an i16.
+-- The readout's arithmetic: every step has the sign of the code, and a size.
 -- Assumes nothing.
-use Prim.Native.Nat.{ℕ, zero, suc, _*_, _/_, _≤_, _<_, _^_}
+use Prim.Native.Nat.{ℕ, zero, suc, _+_, _*_, _/_, _%_, _<_, _≤_, _^_}
+use native.Mathlib.Nat.{zero-div, zero-mod}
 use native.Mathlib.Omega.{arith}
-use mathlib.Core.Path.{_≡_, refl}
-use lib.IntN.{ℤ, pos, negsuc, negℤ, _*ℤ_}
-use lib.Signed.{quotZ}
+use mathlib.Core.Bool.{true, false}
+use mathlib.Core.Path.{_≡_, refl, sym, _∙_}
+use borrow.Author.Tests.{ltb-true}
+use lib.IntN.{ℤ, pos, negsuc, negℤ, natAbs, _+ℤ_, _*ℤ_, negℤ-+ℤ}
+use lib.Signed.{mag, ltZ, quotZ, remZ, natAbs-le}
 use mir.Syntax.{Width, w16, w32}
-use mir.Val.{SFits, hbits}
+use mir.Val.{SFits, toZ, ofZ, hbits}
+use mir.Facts.{toZ-ofZ}
+use Rattle.dom.specs.Readout.{nearest, signedAs}
+use Rattle.dom.proofs.Rounding.{nearest-cases}
+use Rattle.dom.proofs.Signed.{back, widened}
 
--- -m fits where m is at most half the width's power
-negative-fits : (w : Width) (m : ℕ) → 0 < 2 ^ hbits w → m ≤ 2 ^ hbits w → SFits w (negℤ (pos m))
-negative-fits w zero p h = record { sfits = p }
-negative-fits w (suc m) p h = record { sfits = h }
+-- x has the sign of the code and so many units
+pub record Sized (code x : ℤ) (n : ℕ) : Type 0 where
+  pub is : x ≡ signedAs code n
 
-pub product-fits : (z : ℤ) → SFits w16 z → SFits w32 (z *ℤ pos 10)
-product-fits (pos n) f = record { sfits = omega (arith, f .sfits) }
-product-fits (negsuc n) f = negative-fits w32 (suc n * 10) (omega arith) (omega (arith, f .sfits))
+pub size : (code : ℤ) → SFits w16 code → natAbs code ≤ 0x8000
+size code f = natAbs-le code (f .sfits)
 
-pub quotient-negative : (m : ℕ) → quotZ (negℤ (pos m)) (pos 256) ≡ negℤ (pos (m / 256))
-quotient-negative zero = refl
-quotient-negative (suc m) = refl
+-- ---- what fits, and is then read back
+signed-fits : (w : Width) (code : ℤ) (n : ℕ) → n < 2 ^ hbits w → SFits w (signedAs code n)
+signed-fits w (pos _) n h = record { sfits = h }
+signed-fits w (negsuc _) zero h = record { sfits = h }
+signed-fits w (negsuc _) (suc n) h = record { sfits = omega arith }
 
-pub quotient-fits : (z : ℤ) → SFits w16 z → SFits w16 (quotZ (z *ℤ pos 10) (pos 256))
-quotient-fits (pos n) f = record { sfits = omega (arith, f .sfits) }
-quotient-fits (negsuc n) f =
-    rw (quotient-negative (suc n * 10)) (negative-fits w16 (suc n * 10 / 256) (omega arith) (omega (arith, f .sfits)))
+pub fits : (w : Width) {code x : ℤ} {n : ℕ} → Sized code x n → n < 2 ^ hbits w → SFits w x
+fits w {code = code} {n = n} s h = rw (s .is) (signed-fits w code n h)
+
+pub held : (w : Width) {code x : ℤ} {n : ℕ} → Sized code x n → n < 2 ^ hbits w → Sized code (toZ w (ofZ w x)) n
+held w {code = code} {n = n} s h = record { is = rw (s .is) (toZ-ofZ (signed-fits w code n h)) }
+
+-- ---- signed operations
+signed-sum : (code : ℤ) (a b : ℕ) → signedAs code a +ℤ signedAs code b ≡ signedAs code (a + b)
+signed-sum (pos _) a b = refl
+signed-sum (negsuc _) a b = sym (negℤ-+ℤ (pos a) (pos b))
+
+signed-quotient : (code : ℤ) (a d : ℕ) → quotZ (signedAs code a) (pos d) ≡ signedAs code (a / d)
+signed-quotient (pos _) a d = refl
+signed-quotient (negsuc _) zero d = rw (zero-div d)
+signed-quotient (negsuc _) (suc a) d = refl
+
+signed-remainder : (code : ℤ) (a d : ℕ) → remZ (signedAs code a) (pos d) ≡ signedAs code (a % d)
+signed-remainder (pos _) a d = refl
+signed-remainder (negsuc _) zero d = rw (zero-mod d)
+signed-remainder (negsuc _) (suc a) d = refl
+
+signed-product : (code : ℤ) (k : ℕ) → code *ℤ pos k ≡ signedAs code (natAbs code * k)
+signed-product (pos _) k = refl
+signed-product (negsuc _) k = refl
+
+pub times : (code : ℤ) (k : ℕ) → SFits w16 code → Sized code (toZ w32 (ofZ w32 (toZ w16 (ofZ w16 code))) *ℤ pos k) (natAbs code * k)
+times code k f = record { is = rw (widened code f) (signed-product code k) }
+
+pub sum : {code x y : ℤ} {a b : ℕ} → Sized code x a → Sized code y b → Sized code (x +ℤ y) (a + b)
+sum {code = code} {a = a} {b = b} s t = record { is = rw (s .is, t .is) (signed-sum code a b) }
+
+pub quotient : {code x : ℤ} {a : ℕ} (d : ℕ) → Sized code x a → Sized code (quotZ x (pos d)) (a / d)
+quotient {code = code} {a = a} d s = record { is = rw (s .is) (signed-quotient code a d) }
+
+pub remainder : {code x : ℤ} {a : ℕ} (d : ℕ) → Sized code x a → Sized code (remZ x (pos d)) (a % d)
+remainder {code = code} {a = a} d s = record { is = rw (s .is) (signed-remainder code a d) }
+
+-- what `below_half` gives
+pub half : (code : ℤ) {x : ℤ} → SFits w16 code → mag x < 2 ^ hbits w32 → x ≡ signedAs (toZ w16 (ofZ w16 code)) 127 → Sized code (toZ w32 (ofZ w32 x)) 127
+half code {x} f ok e = record { is = back w32 x ok ∙ (rw (toZ-ofZ f) at e) }
+
+-- ---- the test for a negative code
+pub below : (code : ℤ) (n : ℕ) → ltZ code (pos 0) ≡ true → negℤ (pos n) ≡ signedAs code n
+below (pos k) n e = absurd (omega (arith, ltb-true k 0 e))
+below (negsuc _) n e = refl
+
+pub not-below : (code : ℤ) (n : ℕ) → ltZ code (pos 0) ≡ false → pos n ≡ signedAs code n
+not-below (pos _) n e = refl
+not-below (negsuc _) n e = absurd (let z : _≡_ {A = ℕ} 0 1 = cc in omega arith)
+
+-- ---- half of 256 where the quotient is odd, and just less where it is even, takes to the nearest
+pub rounds : (n : ℕ) → (n + 127 + n / 256 % 2) / 256 ≡ nearest n 256
+rounds n =
+    nearest-cases (λ k. (n + 127 + n / 256 % 2) / 256 ≡ k) n 256 (λ h. omega arith) (λ h. omega arith) (λ h. omega arith)

@@ -1,8 +1,40 @@
--- A temperature code in tenths of a degree.
+-- A temperature code in tenths of a degree, and what it is to go to the nearest tenth.
 -- Assumes nothing.
-use lib.IntN.{ℤ, pos, _*ℤ_}
-use lib.Signed.{quotZ}
+use Prim.Native.Nat.{ℕ, _+_, _*_, _/_, _%_, _≤_}
+use mathlib.Core.Bool.{cond}
+use mathlib.Core.List.{[], _∷_, map}
+use mathlib.Core.Path.{_≡_}
+use lib.Dec.{ltb}
+use lib.IntN.{ℤ, pos, negsuc, negℤ, natAbs, _-ℤ_, _*ℤ_}
 
--- code × 10 / 256, toward zero
-abbrev pub tenthsOf : ℤ → ℤ
-tenthsOf code = quotZ (code *ℤ pos 10) (pos 256)
+-- ---- the readout
+-- n / d to the nearest whole number, a half to the even one
+abbrev pub nearest : (n d : ℕ) → ℕ
+nearest n d = cond (ltb (n % d * 2) d) (n / d) (cond (ltb d (n % d * 2)) (n / d + 1) (n / d + n / d % 2))
+
+-- a number with the sign of a code
+abbrev pub signedAs : (code : ℤ) → ℕ → ℤ
+signedAs (pos n) k = pos k
+signedAs (negsuc n) k = negℤ (pos k)
+
+-- code × 10 / 256, so rounded
+abbrev pub tenthsOf : (code : ℤ) → ℤ
+tenthsOf code = signedAs code (nearest (natAbs code * 10) 256)
+
+-- ---- the same in plain arithmetic
+-- how far so many tenths are from code × 10 / 256, in 1/256 of a tenth
+abbrev pub distance : (code tenths : ℤ) → ℕ
+distance code t = natAbs (code *ℤ pos 10 -ℤ t *ℤ pos 256)
+
+-- at most half a tenth; at the half, an even number of tenths
+pub record Nearest (code tenths : ℤ) : Type 0 where
+  pub near : distance code tenths ≤ 128
+  pub even : distance code tenths ≡ 128 → natAbs tenths % 2 ≡ 0
+
+pub record Rounding : Type 0 where
+  -- for every code the readout is so,
+  pub nearest : (code : ℤ) → Nearest code (tenthsOf code)
+  -- and nothing else is
+  pub only : (code tenths : ℤ) → Nearest code tenths → tenths ≡ tenthsOf code
+  -- document 02's four codes; the last code and the first
+  pub cases : map tenthsOf (pos 64 ∷ pos 192 ∷ negsuc 63 ∷ negsuc 191 ∷ pos 32767 ∷ negsuc 32767 ∷ []) ≡ pos 2 ∷ pos 8 ∷ negsuc 1 ∷ negsuc 7 ∷ pos 1280 ∷ negsuc 1279 ∷ []

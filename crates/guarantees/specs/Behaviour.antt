@@ -213,7 +213,16 @@ settleCount r budget = if r .powered then min budget (ticksDue (r .job)) else 0
 abbrev pub settleSaid : Reference → (budget : ℕ) → Said
 settleSaid r budget = if r .powered then says 1 (settleCount r budget ∷ []) else refused 7
 
--- ---- the readout: tenths of a degree, code × 10 / 256, toward zero
+-- ---- the readout: code × 10 / 256 to the nearest tenth of a degree, a half to the even one
+-- n / 256 to the nearest whole number, where it is no half
+abbrev pub nearest : ℕ → ℕ
+nearest n = (n + 128) / 256
+
+-- a half is where the code leaves 64 by 128; the even one is then twice the nearest to code × 5 / 256
+abbrev pub tenthsAbove : ℕ → ℕ
+tenthsAbove n = if eqb (n % 128) 64 then 2 * nearest (n * 5) else nearest (n * 10)
+
+-- below zero as above it
 abbrev pub tenths : (code : ℤ) → ℤ
-tenths (pos n) = pos (n * 10 / 256)
-tenths (negsuc n) = negℤ (pos (suc n * 10 / 256))
+tenths (pos n) = pos (tenthsAbove n)
+tenths (negsuc n) = negℤ (pos (tenthsAbove (suc n)))

@@ -119,9 +119,9 @@ table =
     ∷ plays (address 0xffff ++ readIncrement 0x0000) 0xffff 1 image []
     -- 9002 is 1, link up, 9005 twice
     ∷ plays (address 0x9002 ++ write 0x0001 ++ asserted (linkUp ++ address 0x9005) ++ read 0x0001 ++ read 0x0000) 0x9005 2 image []
-    -- readout of 192, −192
-    ∷ reads (pos 192) (pos 7)
-    ∷ reads (negsuc 191) (negsuc 6)
+    -- readout of 192, −192 (document 02, P2)
+    ∷ reads (pos 192) (pos 8)
+    ∷ reads (negsuc 191) (negsuc 7)
     ∷ []
 
 -- ---- what each row comes to
