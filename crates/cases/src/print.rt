@@ -26,7 +26,10 @@ pub fn number(n: u32) {
 
 // A decimal number with its sign.
 pub fn signed(n: i16) {
-    text(if n < 0 { b"=-" } else { b"=" });
+    text(b"=");
+    if n < 0 {
+        text(b"-");
+    }
     io::print_decimal(STDOUT_FILENO, size(n) as u64);
 }
 

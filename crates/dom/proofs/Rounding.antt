@@ -8,17 +8,21 @@ use mathlib.Core.Path.{_≡_, refl, sym, ap, _∙_}
 use borrow.Author.Tests.{ltb-true, ltb-false}
 use lib.Dec.{ltb}
 use lib.IntN.{ℤ, pos, negsuc, negℤ, natAbs, subℕ, _-ℤ_, _*ℤ_, negℤ-negℤ, negℤ-+ℤ}
-use Rattle.dom.specs.Readout.{nearest, tenthsOf, distance, Nearest, Rounding}
+use Rattle.dom.specs.Readout.{nearest, tenthsOf, distance, Nearest, Codes, Rounding}
+
+-- ---- document 02's codes and the ends
+codes : Codes
+codes = refl
 
 -- ---- what holds of the nearest whole number, by the rest
-nearest-by : (P : ℕ → Type 0) (n d : ℕ) (low high : Bool) → ltb (n % d * 2) d ≡ low → ltb d (n % d * 2) ≡ high → (n % d * 2 < d → P (n / d)) → (d < n % d * 2 → P (n / d + 1)) → (n % d * 2 ≡ d → P (n / d + n / d % 2)) → P (cond low (n / d) (cond high (n / d + 1) (n / d + n / d % 2)))
-nearest-by P n d true high l h below above half = below (ltb-true (n % d * 2) d l)
-nearest-by P n d false true l h below above half = above (ltb-true d (n % d * 2) h)
-nearest-by P n d false false l h below above half =
+by-tests : (P : ℕ → Type 0) (n d : ℕ) (low high : Bool) → ltb (n % d * 2) d ≡ low → ltb d (n % d * 2) ≡ high → (n % d * 2 < d → P (n / d)) → (d < n % d * 2 → P (n / d + 1)) → (n % d * 2 ≡ d → P (n / d + n / d % 2)) → P (cond low (n / d) (cond high (n / d + 1) (n / d + n / d % 2)))
+by-tests P n d true high l h below above half = below (ltb-true (n % d * 2) d l)
+by-tests P n d false true l h below above half = above (ltb-true d (n % d * 2) h)
+by-tests P n d false false l h below above half =
     half (omega (arith, ltb-false (n % d * 2) d l, ltb-false d (n % d * 2) h))
 
-pub nearest-cases : (P : ℕ → Type 0) (n d : ℕ) → (n % d * 2 < d → P (n / d)) → (d < n % d * 2 → P (n / d + 1)) → (n % d * 2 ≡ d → P (n / d + n / d % 2)) → P (nearest n d)
-nearest-cases P n d = nearest-by P n d (ltb (n % d * 2) d) (ltb d (n % d * 2)) refl refl
+pub by-rest : (P : ℕ → Type 0) (n d : ℕ) → (n % d * 2 < d → P (n / d)) → (d < n % d * 2 → P (n / d + 1)) → (n % d * 2 ≡ d → P (n / d + n / d % 2)) → P (nearest n d)
+by-rest P n d = by-tests P n d (ltb (n % d * 2) d) (ltb d (n % d * 2)) refl refl
 
 -- ---- distances
 apart-by : (a b : ℕ) (less : Bool) → ltb a b ≡ less → natAbs (cond less (negsuc (b - suc a)) (pos (a - b))) ≡ a - b + (b - a)
@@ -53,19 +57,12 @@ opposite code t h =
     }
 
 -- ---- a code that is not negative
-above : (n t : ℕ) → n * 10 - t * 256 + (t * 256 - n * 10) ≤ 128 → (n * 10 - t * 256 + (t * 256 - n * 10) ≡ 128 → t % 2 ≡ 0) → Nearest (pos n) (pos t)
-above n t near even =
-    record {
-      near = rw (apart (n * 10) (t * 256)) near;
-      even = λ e. even (sym (apart (n * 10) (t * 256)) ∙ e);
-    }
-
 is-nearest : (n : ℕ) → Nearest (pos n) (tenthsOf (pos n))
 is-nearest n =
-    nearest-cases (λ t. Nearest (pos n) (pos t)) (n * 10) 256
-    (λ h. above n (n * 10 / 256) (omega arith) (λ e. omega arith))
-    (λ h. above n (n * 10 / 256 + 1) (omega arith) (λ e. omega arith))
-    (λ h. above n (n * 10 / 256 + n * 10 / 256 % 2) (omega arith) (λ e. omega arith))
+    by-rest (λ t. Nearest (pos n) (pos t)) (n * 10) 256
+    (λ r. record { near = rw (apart _ _) (omega arith); even = λ e. let h = rw (apart _ _) at e in omega (arith, h) })
+    (λ r. record { near = rw (apart _ _) (omega arith); even = λ e. let h = rw (apart _ _) at e in omega (arith, h) })
+    (λ r. record { near = rw (apart _ _) (omega arith); even = λ e. let h = rw (apart _ _) at e in omega (arith, h) })
 
 -- at a half it is the quotient or one more, whichever is even
 at-half : (n t : ℕ) (more : Bool) → ltb (n * 10 / 256) t ≡ more → n * 10 % 256 * 2 ≡ 256 → Nearest (pos n) (pos t) → t ≡ n * 10 / 256 + n * 10 / 256 % 2
@@ -82,7 +79,7 @@ only-above : (n : ℕ) (t : ℤ) → Nearest (pos n) t → t ≡ tenthsOf (pos n
 only-above n (pos t) h =
     let near = rw (apart (n * 10) (t * 256)) at (h .near) in
     ap pos
-    (nearest-cases (λ k. t ≡ k) (n * 10) 256 (λ r. omega (arith, near)) (λ r. omega (arith, near))
+    (by-rest (λ k. t ≡ k) (n * 10) 256 (λ r. omega (arith, near)) (λ r. omega (arith, near))
     (λ r. at-half n t (ltb (n * 10 / 256) t) refl r h))
 only-above n (negsuc t) h =
     let near = rw (negℤ-negℤ (pos (suc t * 256))) at (h .near) in
@@ -99,4 +96,4 @@ only-tenth (negsuc n) t h =
     sym (negℤ-negℤ t) ∙ ap negℤ (only-above (suc n) (negℤ t) (opposite (negsuc n) t h))
 
 pub rounding : Rounding
-rounding = record { nearest = nearest-tenth; only = only-tenth; cases = refl }
+rounding = record { nearest = nearest-tenth; only = only-tenth; codes = codes }

@@ -12,7 +12,7 @@ use mir.Syntax.{Width, w16, w32}
 use mir.Val.{SFits, toZ, ofZ, hbits}
 use mir.Facts.{toZ-ofZ}
 use Rattle.dom.specs.Readout.{nearest, signedAs}
-use Rattle.dom.proofs.Rounding.{nearest-cases}
+use Rattle.dom.proofs.Rounding.{by-rest}
 use Rattle.dom.proofs.Signed.{back, widened}
 
 -- x has the sign of the code and so many units
@@ -65,9 +65,9 @@ quotient {code = code} {a = a} d s = record { is = rw (s .is) (signed-quotient c
 pub remainder : {code x : ℤ} {a : ℕ} (d : ℕ) → Sized code x a → Sized code (remZ x (pos d)) (a % d)
 remainder {code = code} {a = a} d s = record { is = rw (s .is) (signed-remainder code a d) }
 
--- what `below_half` gives
-pub half : (code : ℤ) {x : ℤ} → SFits w16 code → mag x < 2 ^ hbits w32 → x ≡ signedAs (toZ w16 (ofZ w16 code)) 127 → Sized code (toZ w32 (ofZ w32 x)) 127
-half code {x} f ok e = record { is = back w32 x ok ∙ (rw (toZ-ofZ f) at e) }
+-- what a call that is given the code returns
+pub returned : {code x : ℤ} (n : ℕ) → SFits w16 code → mag x < 2 ^ hbits w32 → x ≡ signedAs (toZ w16 (ofZ w16 code)) n → Sized code (toZ w32 (ofZ w32 x)) n
+returned {x = x} n f ok e = record { is = back w32 x ok ∙ (rw (toZ-ofZ f) at e) }
 
 -- ---- the test for a negative code
 pub below : (code : ℤ) (n : ℕ) → ltZ code (pos 0) ≡ true → negℤ (pos n) ≡ signedAs code n
@@ -81,4 +81,4 @@ not-below (negsuc _) n e = absurd (let z : _≡_ {A = ℕ} 0 1 = cc in omega ari
 -- ---- half of 256 where the quotient is odd, and just less where it is even, takes to the nearest
 pub rounds : (n : ℕ) → (n + 127 + n / 256 % 2) / 256 ≡ nearest n 256
 rounds n =
-    nearest-cases (λ k. (n + 127 + n / 256 % 2) / 256 ≡ k) n 256 (λ h. omega arith) (λ h. omega arith) (λ h. omega arith)
+    by-rest (λ k. (n + 127 + n / 256 % 2) / 256 ≡ k) n 256 (λ r. omega arith) (λ r. omega arith) (λ r. omega arith)

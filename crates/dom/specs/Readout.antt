@@ -31,10 +31,14 @@ pub record Nearest (code tenths : ℤ) : Type 0 where
   pub near : distance code tenths ≤ 128
   pub even : distance code tenths ≡ 128 → natAbs tenths % 2 ≡ 0
 
+-- document 02's codes, 64, 192, −64 and −192; the last code and the first
+abbrev pub Codes : Type 0
+Codes =
+    map tenthsOf (pos 64 ∷ pos 192 ∷ negsuc 63 ∷ negsuc 191 ∷ pos 32767 ∷ negsuc 32767 ∷ []) ≡ pos 2 ∷ pos 8 ∷ negsuc 1 ∷ negsuc 7 ∷ pos 1280 ∷ negsuc 1279 ∷ []
+
 pub record Rounding : Type 0 where
+  pub codes : Codes
   -- for every code the readout is so,
   pub nearest : (code : ℤ) → Nearest code (tenthsOf code)
   -- and nothing else is
   pub only : (code tenths : ℤ) → Nearest code tenths → tenths ≡ tenthsOf code
-  -- document 02's four codes; the last code and the first
-  pub cases : map tenthsOf (pos 64 ∷ pos 192 ∷ negsuc 63 ∷ negsuc 191 ∷ pos 32767 ∷ negsuc 32767 ∷ []) ≡ pos 2 ∷ pos 8 ∷ negsuc 1 ∷ negsuc 7 ∷ pos 1280 ∷ negsuc 1279 ∷ []

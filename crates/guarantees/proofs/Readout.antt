@@ -9,9 +9,8 @@ use borrow.Author.Tests.{eqb-true, eqb-false}
 use lib.Dec.{eqb}
 use lib.IntN.{pos, negsuc, negℤ}
 use Rattle.dom.specs.Readout as dom
-use Rattle.dom.proofs.Rounding.{nearest-cases}
-use Rattle.guarantees.specs.Reference.{if_then_else_}
-use Rattle.guarantees.specs.Behaviour.{nearest, tenthsAbove}
+use Rattle.dom.proofs.Rounding.{by-rest}
+use Rattle.guarantees.specs.Behaviour.{tenthsAbove}
 use Rattle.guarantees.specs.Guarantees.{Readout}
 
 -- 5 × 77 leaves 1 by 128: where code × 5 leaves 64, so does the code
@@ -28,12 +27,13 @@ half-rest n h =
     let ten : n * 10 ≡ 256 * (5 * (n / 128) + 2) + 128 = omega (arith, h) in
     ap (λ (k : ℕ). k % 256) ten ∙ mul-add-mod-self-left 256 (5 * (n / 128) + 2) 128
 
-by-half : (n : ℕ) (half : Bool) → eqb (n % 128) 64 ≡ half → dom.nearest (n * 10) 256 ≡ (if half then 2 * nearest (n * 5) else nearest (n * 10))
+by-half : (n : ℕ) (half : Bool) → eqb (n % 128) 64 ≡ half → dom.nearest (n * 10) 256 ≡ tenthsAbove n
 by-half n true e =
     let h = half-rest n (eqb-true (n % 128) 64 e) in
-    nearest-cases (λ k. k ≡ 2 * nearest (n * 5)) (n * 10) 256 (λ r. omega (arith, h)) (λ r. omega (arith, h)) (λ r. omega (arith, h))
+    by-rest (λ k. k ≡ tenthsAbove n) (n * 10) 256 (λ r. rw e (omega (arith, h))) (λ r. rw e (omega (arith, h)))
+    (λ r. rw e (omega (arith, h)))
 by-half n false e =
-    nearest-cases (λ k. k ≡ nearest (n * 10)) (n * 10) 256 (λ r. omega arith) (λ r. omega arith)
+    by-rest (λ k. k ≡ tenthsAbove n) (n * 10) 256 (λ r. rw e (omega arith)) (λ r. rw e (omega arith))
     (λ r. absurd (eqb-false (n % 128) 64 e (half-code n r)))
 
 above : (n : ℕ) → dom.nearest (n * 10) 256 ≡ tenthsAbove n

@@ -9,5 +9,5 @@ pub below-half-spec : {M : Type 1} → statement M
 below-half-spec =
     tie.close
     (tie.spec
-    (λ c. below (c .before .args .code) 127 (rw (toZ-ofZ (c .before .fits .code)) at (c .if1 .taken)))
-    (λ c. not-below (c .before .args .code) 127 (rw (toZ-ofZ (c .before .fits .code)) at (c .if1 .left))))
+    (λ c. below (c .before .args .code) _ (rw (toZ-ofZ (c .before .fits .code)) at (c .if1 .taken)))
+    (λ c. not-below (c .before .args .code) _ (rw (toZ-ofZ (c .before .fits .code)) at (c .if1 .left))))
