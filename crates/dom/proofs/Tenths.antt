@@ -3,7 +3,7 @@
 use Prim.Native.Nat.{ℕ, zero, suc, _+_, _*_, _/_, _%_, _<_, _≤_, _^_}
 use native.Mathlib.Nat.{zero-div, zero-mod}
 use native.Mathlib.Omega.{arith}
-use mathlib.Core.Bool.{true, false}
+use mathlib.Core.Bool.{true, false, true≢false}
 use mathlib.Core.Path.{_≡_, refl, sym, _∙_}
 use borrow.Author.Tests.{ltb-true}
 use lib.IntN.{ℤ, pos, negsuc, negℤ, natAbs, _+ℤ_, _*ℤ_, negℤ-+ℤ}
@@ -23,47 +23,32 @@ pub size : (code : ℤ) → SFits w16 code → natAbs code ≤ 0x8000
 size code f = natAbs-le code (f .sfits)
 
 -- ---- what fits, and is then read back
-signed-fits : (w : Width) (code : ℤ) (n : ℕ) → n < 2 ^ hbits w → SFits w (signedAs code n)
-signed-fits w (pos _) n h = record { sfits = h }
-signed-fits w (negsuc _) zero h = record { sfits = h }
-signed-fits w (negsuc _) (suc n) h = record { sfits = omega arith }
-
 pub fits : (w : Width) {code x : ℤ} {n : ℕ} → Sized code x n → n < 2 ^ hbits w → SFits w x
-fits w {code = code} {n = n} s h = rw (s .is) (signed-fits w code n h)
+fits w {code = pos _} s h = rw (s .is) (record { sfits = h })
+fits w {code = negsuc _} {n = zero} s h = rw (s .is) (record { sfits = h })
+fits w {code = negsuc _} {n = suc n} s h = rw (s .is) (record { sfits = omega arith })
 
 pub held : (w : Width) {code x : ℤ} {n : ℕ} → Sized code x n → n < 2 ^ hbits w → Sized code (toZ w (ofZ w x)) n
-held w {code = code} {n = n} s h = record { is = rw (s .is) (toZ-ofZ (signed-fits w code n h)) }
+held w s h = record { is = toZ-ofZ (fits w s h) ∙ s .is }
 
 -- ---- signed operations
-signed-sum : (code : ℤ) (a b : ℕ) → signedAs code a +ℤ signedAs code b ≡ signedAs code (a + b)
-signed-sum (pos _) a b = refl
-signed-sum (negsuc _) a b = sym (negℤ-+ℤ (pos a) (pos b))
-
-signed-quotient : (code : ℤ) (a d : ℕ) → quotZ (signedAs code a) (pos d) ≡ signedAs code (a / d)
-signed-quotient (pos _) a d = refl
-signed-quotient (negsuc _) zero d = rw (zero-div d)
-signed-quotient (negsuc _) (suc a) d = refl
-
-signed-remainder : (code : ℤ) (a d : ℕ) → remZ (signedAs code a) (pos d) ≡ signedAs code (a % d)
-signed-remainder (pos _) a d = refl
-signed-remainder (negsuc _) zero d = rw (zero-mod d)
-signed-remainder (negsuc _) (suc a) d = refl
-
-signed-product : (code : ℤ) (k : ℕ) → code *ℤ pos k ≡ signedAs code (natAbs code * k)
-signed-product (pos _) k = refl
-signed-product (negsuc _) k = refl
-
 pub times : (code : ℤ) (k : ℕ) → SFits w16 code → Sized code (toZ w32 (ofZ w32 (toZ w16 (ofZ w16 code))) *ℤ pos k) (natAbs code * k)
-times code k f = record { is = rw (widened code f) (signed-product code k) }
+times (pos n) k f = record { is = rw (widened (pos n) f) }
+times (negsuc n) k f = record { is = rw (widened (negsuc n) f) }
 
 pub sum : {code x y : ℤ} {a b : ℕ} → Sized code x a → Sized code y b → Sized code (x +ℤ y) (a + b)
-sum {code = code} {a = a} {b = b} s t = record { is = rw (s .is, t .is) (signed-sum code a b) }
+sum {code = pos _} s t = record { is = rw (s .is, t .is) }
+sum {code = negsuc _} {a = a} {b = b} s t = record { is = rw (s .is, t .is) (sym (negℤ-+ℤ (pos a) (pos b))) }
 
 pub quotient : {code x : ℤ} {a : ℕ} (d : ℕ) → Sized code x a → Sized code (quotZ x (pos d)) (a / d)
-quotient {code = code} {a = a} d s = record { is = rw (s .is) (signed-quotient code a d) }
+quotient {code = pos _} d s = record { is = rw (s .is) }
+quotient {code = negsuc _} {a = zero} d s = record { is = rw (s .is, zero-div d) }
+quotient {code = negsuc _} {a = suc a} d s = record { is = rw (s .is) }
 
 pub remainder : {code x : ℤ} {a : ℕ} (d : ℕ) → Sized code x a → Sized code (remZ x (pos d)) (a % d)
-remainder {code = code} {a = a} d s = record { is = rw (s .is) (signed-remainder code a d) }
+remainder {code = pos _} d s = record { is = rw (s .is) }
+remainder {code = negsuc _} {a = zero} d s = record { is = rw (s .is, zero-mod d) }
+remainder {code = negsuc _} {a = suc a} d s = record { is = rw (s .is) }
 
 -- what a call that is given the code returns
 pub returned : {code x : ℤ} (n : ℕ) → SFits w16 code → mag x < 2 ^ hbits w32 → x ≡ signedAs (toZ w16 (ofZ w16 code)) n → Sized code (toZ w32 (ofZ w32 x)) n
@@ -76,7 +61,7 @@ below (negsuc _) n e = refl
 
 pub not-below : (code : ℤ) (n : ℕ) → ltZ code (pos 0) ≡ false → pos n ≡ signedAs code n
 not-below (pos _) n e = refl
-not-below (negsuc _) n e = absurd (let z : _≡_ {A = ℕ} 0 1 = cc in omega arith)
+not-below (negsuc _) n e = absurd (true≢false e)
 
 -- ---- half of 256 where the quotient is odd, and just less where it is even, takes to the nearest
 pub rounds : (n : ℕ) → (n + 127 + n / 256 % 2) / 256 ≡ nearest n 256

@@ -14,6 +14,6 @@ pub fn tenths(code: i16) -> i16
     ensures { λ r. ⌜ r ≡ tenthsOf code ⌝ }
 {
     let product = code as i32 * 10;
-    // Where the quotient toward zero is odd, one more makes a half of it.
+    // 127, and one more where the quotient is odd: a half stays at an even one, and goes on from an odd one.
     ((product + below_half(code) + product / 256 % 2) / 256) as i16
 }
