@@ -7,7 +7,7 @@ mod sheet;
 
 use libc::STDIN_FILENO;
 
-// The sheet of this folder, stdin, has the cases of document 01 beside its own table; the file stdout has what must come
+// The sheet of this folder, stdin, has cases of the papers beside document 01's table; the file stdout has what must come
 // out. A sheet has at most 65,536 bytes, and what is past them is not played; its last line ends as every other does.
 fn main() {
     let mut sheet = io::large_buffer();

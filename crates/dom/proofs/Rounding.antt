@@ -8,11 +8,11 @@ use mathlib.Core.Path.{_≡_, refl, sym, ap, _∙_}
 use borrow.Author.Tests.{ltb-true, ltb-false}
 use lib.Dec.{ltb}
 use lib.IntN.{ℤ, pos, negsuc, negℤ, natAbs, _-ℤ_, _*ℤ_, negℤ-negℤ, negℤ-+ℤ}
-use Rattle.dom.specs.Readout.{nearest, tenthsOf, distance, Nearest, Codes, Rounding}
+use Rattle.dom.specs.Readout.{nearest, tenthsOf, distance, Nearest, Examples, Rounding}
 
 -- ---- document 02's codes and the ends
-codes : Codes
-codes = refl
+examples : Examples
+examples = refl
 
 -- ---- what holds of the nearest whole number, by the rest
 by-tests : (P : ℕ → Type 0) (n d : ℕ) (low high : Bool) → ltb (n % d * 2) d ≡ low → ltb d (n % d * 2) ≡ high → (n % d * 2 < d → P (n / d)) → (d < n % d * 2 → P (n / d + 1)) → (n % d * 2 ≡ d → P (n / d + n / d % 2)) → P (cond low (n / d) (cond high (n / d + 1) (n / d + n / d % 2)))
@@ -96,4 +96,4 @@ only-tenth (negsuc n) t h =
     sym (negℤ-negℤ t) ∙ ap negℤ (only-above (suc n) (negℤ t) (opposite (negsuc n) t h))
 
 pub rounding : Rounding
-rounding = record { nearest = nearest-tenth; only = only-tenth; codes = codes }
+rounding = record { examples = examples; nearest = nearest-tenth; only = only-tenth }

@@ -32,12 +32,12 @@ pub record Nearest (code tenths : ℤ) : Type 0 where
   pub even : distance code tenths ≡ 128 → natAbs tenths % 2 ≡ 0
 
 -- document 02's codes, 64, 192, −64 and −192; the last code and the first
-abbrev pub Codes : Type 0
-Codes =
+abbrev pub Examples : Type 0
+Examples =
     map tenthsOf (pos 64 ∷ pos 192 ∷ negsuc 63 ∷ negsuc 191 ∷ pos 32767 ∷ negsuc 32767 ∷ []) ≡ pos 2 ∷ pos 8 ∷ negsuc 1 ∷ negsuc 7 ∷ pos 1280 ∷ negsuc 1279 ∷ []
 
 pub record Rounding : Type 0 where
-  pub codes : Codes
+  pub examples : Examples
   -- for every code the readout is so,
   pub nearest : (code : ℤ) → Nearest code (tenthsOf code)
   -- and nothing else is
