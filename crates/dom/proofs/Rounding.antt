@@ -14,15 +14,14 @@ use Rattle.dom.specs.Readout.{nearest, tenthsOf, distance, Nearest, Exam
 examples : Examples
 examples = refl
 
--- ---- what holds of the nearest whole number, by the rest
-by-tests : (P : ℕ → Type 0) (n d : ℕ) (low high : Bool) → ltb (n % d * 2) d ≡ low → ltb d (n % d * 2) ≡ high → (n % d * 2 < d → P (n / d)) → (d < n % d * 2 → P (n / d + 1)) → (n % d * 2 ≡ d → P (n / d + n / d % 2)) → P (cond low (n / d) (cond high (n / d + 1) (n / d + n / d % 2)))
-by-tests P n d true high l h below above half = below (ltb-true (n % d * 2) d l)
-by-tests P n d false true l h below above half = above (ltb-true d (n % d * 2) h)
-by-tests P n d false false l h below above half =
-    half (omega (arith, ltb-false (n % d * 2) d l, ltb-false d (n % d * 2) h))
+-- ---- a rest is less than a half, more, or just that: twice the rest r beside d, as `nearest` tests it
+by-tests : (r d : ℕ) (low high : Bool) → ltb r d ≡ low → ltb d r ≡ high → (P : Type 0) → (ltb r d ≡ true → r < d → P) → (ltb r d ≡ false → ltb d r ≡ true → d < r → P) → (ltb r d ≡ false → ltb d r ≡ false → r ≡ d → P) → P
+by-tests r d true high l h P less more half = less l (ltb-true r d l)
+by-tests r d false true l h P less more half = more l h (ltb-true d r h)
+by-tests r d false false l h P less more half = half l h (omega (arith, ltb-false r d l, ltb-false d r h))
 
-pub by-rest : (P : ℕ → Type 0) (n d : ℕ) → (n % d * 2 < d → P (n / d)) → (d < n % d * 2 → P (n / d + 1)) → (n % d * 2 ≡ d → P (n / d + n / d % 2)) → P (nearest n d)
-by-rest P n d = by-tests P n d (ltb (n % d * 2) d) (ltb d (n % d * 2)) refl refl
+pub by-rest : (r d : ℕ) (P : Type 0) → (ltb r d ≡ true → r < d → P) → (ltb r d ≡ false → ltb d r ≡ true → d < r → P) → (ltb r d ≡ false → ltb d r ≡ false → r ≡ d → P) → P
+by-rest r d = by-tests r d (ltb r d) (ltb d r) refl refl
 
 -- ---- distances
 apart-by : (a b : ℕ) (less : Bool) → ltb a b ≡ less → natAbs (cond less (negsuc (b - suc a)) (pos (a - b))) ≡ a - b + (b - a)
@@ -59,10 +58,10 @@ opposite code t h =
 -- ---- a code that is not negative
 is-nearest : (n : ℕ) → Nearest (pos n) (tenthsOf (pos n))
 is-nearest n =
-    by-rest (λ t. Nearest (pos n) (pos t)) (n * 10) 256
-    (λ r. record { near = rw (apart _ _) (omega arith); even = λ e. let h = rw (apart _ _) at e in omega (arith, h) })
-    (λ r. record { near = rw (apart _ _) (omega arith); even = λ e. let h = rw (apart _ _) at e in omega (arith, h) })
-    (λ r. record { near = rw (apart _ _) (omega arith); even = λ e. let h = rw (apart _ _) at e in omega (arith, h) })
+    by-rest (n * 10 % 256 * 2) 256 (Nearest (pos n) (tenthsOf (pos n)))
+    (λ l r. rw l (record { near = rw (apart _ _) (omega arith); even = λ e. let h = rw (apart _ _) at e in omega (arith, h) }))
+    (λ l m r. rw (l, m) (record { near = rw (apart _ _) (omega arith); even = λ e. let h = rw (apart _ _) at e in omega (arith, h) }))
+    (λ l m r. rw (l, m) (record { near = rw (apart _ _) (omega arith); even = λ e. let h = rw (apart _ _) at e in omega (arith, h) }))
 
 -- at a half it is the quotient or one more, whichever is even
 at-half : (n t : ℕ) (more : Bool) → ltb (n * 10 / 256) t ≡ more → n * 10 % 256 * 2 ≡ 256 → Nearest (pos n) (pos t) → t ≡ n * 10 / 256 + n * 10 / 256 % 2
@@ -78,9 +77,9 @@ at-half n t false e r h =
 only-above : (n : ℕ) (t : ℤ) → Nearest (pos n) t → t ≡ tenthsOf (pos n)
 only-above n (pos t) h =
     let near = rw (apart (n * 10) (t * 256)) at (h .near) in
-    ap pos
-    (by-rest (λ k. t ≡ k) (n * 10) 256 (λ r. omega (arith, near)) (λ r. omega (arith, near))
-    (λ r. at-half n t (ltb (n * 10 / 256) t) refl r h))
+    by-rest (n * 10 % 256 * 2) 256 (pos t ≡ tenthsOf (pos n)) (λ l r. rw l (ap pos (omega (arith, near))))
+    (λ l m r. rw (l, m) (ap pos (omega (arith, near))))
+    (λ l m r. rw (l, m) (ap pos (at-half n t (ltb (n * 10 / 256) t) refl r h)))
 only-above n (negsuc t) h =
     let near = rw (negℤ-negℤ (pos (suc t * 256))) at (h .near) in
     absurd (omega (arith, near))

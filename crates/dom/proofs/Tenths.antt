@@ -66,4 +66,5 @@ not-below (negsuc _) n e = absurd (true≢false e)
 -- ---- half of 256 where the quotient is odd, and just less where it is even, takes to the nearest
 pub rounds : (n : ℕ) → (n + 127 + n / 256 % 2) / 256 ≡ nearest n 256
 rounds n =
-    by-rest (λ k. (n + 127 + n / 256 % 2) / 256 ≡ k) n 256 (λ r. omega arith) (λ r. omega arith) (λ r. omega arith)
+    by-rest (n % 256 * 2) 256 ((n + 127 + n / 256 % 2) / 256 ≡ nearest n 256) (λ l r. rw l (omega arith))
+    (λ l m r. rw (l, m) (omega arith)) (λ l m r. rw (l, m) (omega arith))

@@ -30,11 +30,11 @@ half-rest n h =
 by-half : (n : ℕ) (half : Bool) → eqb (n % 128) 64 ≡ half → dom.nearest (n * 10) 256 ≡ tenthsAbove n
 by-half n true e =
     let h = half-rest n (eqb-true (n % 128) 64 e) in
-    by-rest (λ k. k ≡ tenthsAbove n) (n * 10) 256 (λ r. rw e (omega (arith, h))) (λ r. rw e (omega (arith, h)))
-    (λ r. rw e (omega (arith, h)))
+    by-rest (n * 10 % 256 * 2) 256 (dom.nearest (n * 10) 256 ≡ tenthsAbove n) (λ l r. absurd (omega (arith, h)))
+    (λ l m r. absurd (omega (arith, h))) (λ l m r. rw (l, m, e) (omega (arith, h)))
 by-half n false e =
-    by-rest (λ k. k ≡ tenthsAbove n) (n * 10) 256 (λ r. rw e (omega arith)) (λ r. rw e (omega arith))
-    (λ r. absurd (eqb-false (n % 128) 64 e (half-code n r)))
+    by-rest (n * 10 % 256 * 2) 256 (dom.nearest (n * 10) 256 ≡ tenthsAbove n) (λ l r. rw (l, e) (omega arith))
+    (λ l m r. rw (l, m, e) (omega arith)) (λ l m r. absurd (eqb-false (n % 128) 64 e (half-code n r)))
 
 above : (n : ℕ) → dom.nearest (n * 10) 256 ≡ tenthsAbove n
 above n = by-half n (eqb (n % 128) 64) refl
