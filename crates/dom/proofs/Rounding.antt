@@ -8,7 +8,7 @@ use mathlib.Core.Path.{_≡_, refl, sym, ap, _∙_}
 use borrow.Author.Tests.{ltb-true, ltb-false}
 use lib.Dec.{ltb}
 use lib.IntN.{ℤ, pos, negsuc, negℤ, natAbs, _-ℤ_, _*ℤ_, negℤ-negℤ, negℤ-+ℤ}
-use Rattle.dom.specs.Readout.{nearest, tenthsOf, distance, Nearest, Examples, Rounding}
+use Rattle.dom.specs.Readout.{tenthsOf, distance, Nearest, Examples, Rounding}
 
 -- ---- document 02's codes and the ends
 examples : Examples
