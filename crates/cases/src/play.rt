@@ -154,7 +154,7 @@ fn look(m: Module, step: Step) {
         STORED => crate::print::word(stored(m, (decimal(step.first) % 256) as u8) as u16),
         CHANGED => number(changed(m)),
         TENTHS => signed(tenths(signed_code((step.first % 0x1_0000) as u16))),
-        NEAREST | EVENS => number(crate::readout::count(word)),
+        NEAR | HALVES => number(crate::readout::count(word)),
         MARK | BACK | IMAGE | CODES => {}
         _ => text(b"=?"),
     }

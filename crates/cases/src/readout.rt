@@ -1,6 +1,6 @@
-// The readout on a sheet: the size of a number, and counts over every temperature code.
+// The readout on a sheet: a number's size, and counts over every temperature code.
 ghost use Prim.Native.Nat.{_≤_};
-use crate::sheet::NEAREST;
+use crate::sheet::NEAR;
 use dom::readout::tenths;
 use dom::signed_code;
 
@@ -15,29 +15,29 @@ pub fn size(n: i16) -> u32
     }
 }
 
-// Whether a code reads out to the nearest tenth, a half to the even one. Sizes are in 1/256 of a tenth.
-fn nearest(code: i16) -> bool {
-    let t = tenths(code);
+// How far a code's readout, t tenths, is from code x 10 / 256, in 1/256 of a tenth.
+fn distance(code: i16, t: i16) -> u32 {
     let exact = size(code) * 10;
     let read = size(t) * 256;
-    let side = (t == 0) | ((t < 0) == (code < 0));
-    let near = (exact < read + 128) & (read < exact + 128);
-    let half = (exact == read + 128) | (read == exact + 128);
-    side & (near | half & (size(t) % 2 == 0))
+    if (code < 0) != (t < 0) {
+        exact + read
+    } else if exact < read {
+        read - exact
+    } else {
+        exact - read
+    }
 }
 
-fn even(code: i16) -> bool {
-    size(tenths(code)) % 2 == 0
-}
-
-// 1 where a code reads out as the word asks.
+// 1 where a code reads out as the word asks: near, or a half and even.
 fn counts(word: u64, code: i16) -> u32
     ensures { λ r. ⌜ r ≤ 1 ⌝ }
 {
-    let counted = if word == NEAREST {
-        nearest(code)
+    let t = tenths(code);
+    let d = distance(code, t);
+    let counted = if word == NEAR {
+        d < 128
     } else {
-        even(code)
+        (d == 128) & (size(t) % 2 == 0)
     };
     if counted { 1 } else { 0 }
 }

@@ -61,9 +61,9 @@ pub const CHANGED: u64 = 0x63_6861_6e67_6564;
 
 pub const TENTHS: u64 = 0x7465_6e74_6873;
 
-pub const NEAREST: u64 = 0x6e_6561_7265_7374;
+pub const NEAR: u64 = 0x6e65_6172;
 
-pub const EVENS: u64 = 0x65_7665_6e73;
+pub const HALVES: u64 = 0x6861_6c76_6573;
 
 // What the latest byte is part of.
 const GAP: u8 = 0;

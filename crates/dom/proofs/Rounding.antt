@@ -85,9 +85,9 @@ only-above n (negsuc t) h =
     absurd (omega (arith, near))
 
 -- ---- every code
-nearest-tenth : (code : ℤ) → Nearest code (tenthsOf code)
-nearest-tenth (pos n) = is-nearest n
-nearest-tenth (negsuc n) = opposite (pos (suc n)) (tenthsOf (pos (suc n))) (is-nearest (suc n))
+every-code : (code : ℤ) → Nearest code (tenthsOf code)
+every-code (pos n) = is-nearest n
+every-code (negsuc n) = opposite (pos (suc n)) (tenthsOf (pos (suc n))) (is-nearest (suc n))
 
 only-tenth : (code t : ℤ) → Nearest code t → t ≡ tenthsOf code
 only-tenth (pos n) t h = only-above n t h
@@ -95,4 +95,4 @@ only-tenth (negsuc n) t h =
     sym (negℤ-negℤ t) ∙ ap negℤ (only-above (suc n) (negℤ t) (opposite (negsuc n) t h))
 
 pub rounding : Rounding
-rounding = record { examples = examples; nearest = nearest-tenth; only = only-tenth }
+rounding = record { examples = examples; meets = every-code; only = only-tenth }

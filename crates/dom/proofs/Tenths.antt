@@ -3,17 +3,14 @@
 use Prim.Native.Nat.{ℕ, zero, suc, _+_, _*_, _/_, _%_, _<_, _≤_, _^_}
 use native.Mathlib.Nat.{zero-div, zero-mod}
 use native.Mathlib.Omega.{arith}
-use mathlib.Core.Bool.{true, false, true≢false}
-use mathlib.Core.Path.{_≡_, refl, sym, _∙_}
-use borrow.Author.Tests.{ltb-true}
-use lib.IntN.{ℤ, pos, negsuc, negℤ, natAbs, _+ℤ_, _*ℤ_, negℤ-+ℤ}
-use lib.Signed.{mag, ltZ, quotZ, remZ, natAbs-le}
+use mathlib.Core.Path.{_≡_, sym, _∙_}
+use lib.IntN.{ℤ, pos, negsuc, natAbs, _+ℤ_, _*ℤ_, negℤ-+ℤ}
+use lib.Signed.{quotZ, remZ, natAbs-le}
 use mir.Syntax.{Width, w16, w32}
 use mir.Val.{SFits, toZ, ofZ, hbits}
 use mir.Facts.{toZ-ofZ}
-use Rattle.dom.specs.Readout.{nearest, signedAs}
-use Rattle.dom.proofs.Rounding.{by-rest}
-use Rattle.dom.proofs.Signed.{back, widened}
+use Rattle.dom.specs.Readout.{signedAs}
+use Rattle.dom.proofs.Signed.{widened}
 
 -- x has the sign of the code and so many units
 pub record Sized (code x : ℤ) (n : ℕ) : Type 0 where
@@ -49,22 +46,3 @@ pub remainder : {code x : ℤ} {a : ℕ} (d : ℕ) → Sized code x a → Sized 
 remainder {code = pos _} d s = record { is = rw (s .is) }
 remainder {code = negsuc _} {a = zero} d s = record { is = rw (s .is, zero-mod d) }
 remainder {code = negsuc _} {a = suc a} d s = record { is = rw (s .is) }
-
--- what a call that is given the code returns
-pub returned : {code x : ℤ} (n : ℕ) → SFits w16 code → mag x < 2 ^ hbits w32 → x ≡ signedAs (toZ w16 (ofZ w16 code)) n → Sized code (toZ w32 (ofZ w32 x)) n
-returned {x = x} n f ok e = record { is = back w32 x ok ∙ (rw (toZ-ofZ f) at e) }
-
--- ---- the test for a negative code
-pub below : (code : ℤ) (n : ℕ) → ltZ code (pos 0) ≡ true → negℤ (pos n) ≡ signedAs code n
-below (pos k) n e = absurd (omega (arith, ltb-true k 0 e))
-below (negsuc _) n e = refl
-
-pub not-below : (code : ℤ) (n : ℕ) → ltZ code (pos 0) ≡ false → pos n ≡ signedAs code n
-not-below (pos _) n e = refl
-not-below (negsuc _) n e = absurd (true≢false e)
-
--- ---- half of 256 where the quotient is odd, and just less where it is even, takes to the nearest
-pub rounds : (n : ℕ) → (n + 127 + n / 256 % 2) / 256 ≡ nearest n 256
-rounds n =
-    by-rest (n % 256 * 2) 256 ((n + 127 + n / 256 % 2) / 256 ≡ nearest n 256) (λ l r. rw l (omega arith))
-    (λ l m r. rw (l, m) (omega arith)) (λ l m r. rw (l, m) (omega arith))

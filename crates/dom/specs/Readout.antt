@@ -31,14 +31,14 @@ pub record Nearest (code tenths : ℤ) : Type 0 where
   pub near : distance code tenths ≤ 128
   pub even : distance code tenths ≡ 128 → natAbs tenths % 2 ≡ 0
 
--- document 02's codes, 64, 192, −64 and −192; the last code and the first
+-- document 02's: 64, 192, −64 and −192 read out 2, 8, −2 and −8; the last code 1280, the first −1280
 abbrev pub Examples : Type 0
 Examples =
-    map tenthsOf (pos 64 ∷ pos 192 ∷ negsuc 63 ∷ negsuc 191 ∷ pos 32767 ∷ negsuc 32767 ∷ []) ≡ pos 2 ∷ pos 8 ∷ negsuc 1 ∷ negsuc 7 ∷ pos 1280 ∷ negsuc 1279 ∷ []
+    map tenthsOf (pos 64 ∷ pos 192 ∷ negsuc 63 ∷ negsuc 191 ∷ pos 32767 ∷ negsuc 32767 ∷ [])
+    ≡ pos 2 ∷ pos 8 ∷ negsuc 1 ∷ negsuc 7 ∷ pos 1280 ∷ negsuc 1279 ∷ []
 
+-- the readout of every code is its nearest tenth, at a half the even one, and no other number is
 pub record Rounding : Type 0 where
   pub examples : Examples
-  -- for every code the readout is so,
-  pub nearest : (code : ℤ) → Nearest code (tenthsOf code)
-  -- and nothing else is
+  pub meets : (code : ℤ) → Nearest code (tenthsOf code)
   pub only : (code tenths : ℤ) → Nearest code tenths → tenths ≡ tenthsOf code

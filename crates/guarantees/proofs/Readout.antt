@@ -13,7 +13,7 @@ use Rattle.dom.proofs.Rounding.{by-rest}
 use Rattle.guarantees.specs.Behaviour.{tenthsAbove}
 use Rattle.guarantees.specs.Guarantees.{Readout}
 
--- 5 × 77 leaves 1 by 128: where code × 5 leaves 64, so does the code
+-- 5 × 77, divided by 128, leaves 1: where code × 5 leaves 64, so does the code
 half-code : (n : ℕ) → n * 10 % 256 * 2 ≡ 256 → n % 128 ≡ 64
 half-code n r =
     let q = n * 10 / 256 in

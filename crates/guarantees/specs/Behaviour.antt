@@ -215,12 +215,12 @@ settleSaid r budget = if r .powered then says 1 (settleCount r budget ∷ []) el
 
 -- ---- the readout: code × 10 / 256 to the nearest tenth of a degree, a half to the even one
 -- n / 256 to the nearest whole number, where it is no half
-abbrev pub nearest : ℕ → ℕ
-nearest n = (n + 128) / 256
+abbrev pub rounded : ℕ → ℕ
+rounded n = (n + 128) / 256
 
--- a half is where the code leaves 64 by 128; the even one is then twice the nearest to code × 5 / 256
+-- a half is where the code, divided by 128, leaves 64; the even one is then twice the nearest to code × 5 / 256
 abbrev pub tenthsAbove : ℕ → ℕ
-tenthsAbove n = if eqb (n % 128) 64 then 2 * nearest (n * 5) else nearest (n * 10)
+tenthsAbove n = if eqb (n % 128) 64 then 2 * rounded (n * 5) else rounded (n * 10)
 
 -- below zero as above it
 abbrev pub tenths : (code : ℤ) → ℤ

@@ -1,16 +1,16 @@
 -- `dom::readout::tenths` meets its contract: each step has the code's sign and a size, and is read back whole, since it fits.
 -- Assumes nothing.
-use Prim.Native.Nat.{ℕ, _+_, _*_, _≤_}
+use Prim.Native.Nat.{ℕ, _+_, _*_, _/_, _%_, _≤_, _<_}
 use native.Mathlib.Omega.{arith}
-use mathlib.Core.Path.{ap, _∙_}
-use borrow.Author.Needs.{needs}
+use mathlib.Core.Path.{_≡_, ap, _∙_}
 use lib.Dec.{lit<}
 use lib.IntN.{ℤ, pos, natAbs, _*ℤ_}
 use mir.Facts.{toZ-ofZ}
 use mir.Syntax.{w16, w32}
 use mir.Val.{SFits, toZ, ofZ}
-use Rattle.dom.specs.Readout.{signedAs}
-use Rattle.dom.proofs.Tenths.{Sized, size, fits, held, times, sum, quotient, remainder, returned, rounds}
+use Rattle.dom.specs.Readout.{nearest, signedAs, tenthsOf}
+use Rattle.dom.proofs.Rounding.{by-rest}
+use Rattle.dom.proofs.Tenths.{Sized, size, fits, held, times, sum, quotient, remainder}
 use Rattle.dom.proofs.Signed.{widens}
 use Rattle.dom.proofs.readout.tenths.Statement.{statement}
 use Rattle.dom.proofs.readout.tenths.Tie as tie
@@ -28,45 +28,49 @@ whole f s h = held w32 s (omega (arith, size _ f))
 product : {code : ℤ} → SFits w16 code → Sized code (i32 (i32 (toZ w16 (ofZ w16 code)) *ℤ pos 10)) (natAbs code * 10)
 product f = whole f (times _ 10 f) (omega arith)
 
+-- ---- what has the nearest's size is the readout
+reads : {code x : ℤ} {n : ℕ} → Sized code x n → (natAbs code * 10 % 256 * 2 < 256 → n ≡ natAbs code * 10 / 256) → (256 < natAbs code * 10 % 256 * 2 → n ≡ natAbs code * 10 / 256 + 1) → (natAbs code * 10 % 256 * 2 ≡ 256 → n ≡ natAbs code * 10 / 256 + natAbs code * 10 / 256 % 2) → x ≡ tenthsOf code
+reads {code} {n = n} s less more half =
+    s .is ∙ ap (signedAs code)
+    (by-rest (natAbs code * 10 % 256 * 2) 256 (n ≡ nearest (natAbs code * 10) 256) (λ l r. rw l (less r)) (λ l m r. rw (l, m) (more r)) (λ l m r. rw (l, m) (half r)))
+
 pub tenths-spec : {M : Type 1} → statement M
 tenths-spec =
     tie.close
     (tie.spec
     (λ c. rw (toZ-ofZ (c .fits .code)) (widens (c .fits .code)))
     (λ c. room (c .fits .code) (times _ 10 (c .fits .code)) (omega arith))
-    (λ c κs. search needs)
+    (λ c. let f = c .fits .code in (lit< tt, room f (quotient _ (product f)) (omega arith)))
+    (λ c. let f = c .fits .code in (lit< tt, room f (quotient _ (product f)) (omega arith)))
     (λ c.
-    let f = c .before .fits .code in
-    room f (sum (product f) (returned _ f (c .below-half .ok) (c .below-half .ensures))) (omega arith))
-    (λ c. let f = c .before .fits .code in (lit< tt, room f (quotient _ (product f)) (omega arith)))
-    (λ c.
-    let f = c .before .fits .code in
+    let f = c .fits .code in
     (lit< tt, room f (quotient _ (whole f (quotient _ (product f)) (omega arith))) (omega arith)))
     (λ c.
-    let f = c .before .fits .code in
-    let h = returned _ f (c .below-half .ok) (c .below-half .ensures) in
+    let f = c .fits .code in
     let q = whole f (quotient _ (product f)) (omega arith) in
-    let r = whole f (remainder _ q) (omega arith) in
-    room f (sum (whole f (sum (product f) h) (omega arith)) r) (omega arith))
+    let m = sum (whole f (remainder _ (product f)) (omega arith)) (whole f (remainder _ q) (omega arith)) in
+    room f m (omega arith))
     (λ c.
-    let f = c .before .fits .code in
-    let h = returned _ f (c .below-half .ok) (c .below-half .ensures) in
+    let f = c .fits .code in
     let q = whole f (quotient _ (product f)) (omega arith) in
-    let r = whole f (remainder _ q) (omega arith) in
-    let s = whole f (sum (whole f (sum (product f) h) (omega arith)) r) (omega arith) in
-    (lit< tt, room f (quotient _ s) (omega arith)))
+    let m = sum (whole f (remainder _ (product f)) (omega arith)) (whole f (remainder _ q) (omega arith)) in
+    (lit< tt, room f (quotient _ (whole f m (omega arith))) (omega arith)))
     (λ c.
-    let f = c .before .fits .code in
-    let h = returned _ f (c .below-half .ok) (c .below-half .ensures) in
+    let f = c .fits .code in
     let q = whole f (quotient _ (product f)) (omega arith) in
-    let r = whole f (remainder _ q) (omega arith) in
-    let s = whole f (sum (whole f (sum (product f) h) (omega arith)) r) (omega arith) in
-    fits w16 (whole f (quotient _ s) (omega arith)) (omega (arith, size _ f)))
+    let m = sum (whole f (remainder _ (product f)) (omega arith)) (whole f (remainder _ q) (omega arith)) in
+    let a = sum q (whole f (quotient _ (whole f m (omega arith))) (omega arith)) in
+    room f a (omega arith))
     (λ c.
-    let code = c .before .args .code in
-    let f = c .before .fits .code in
-    let h = returned _ f (c .below-half .ok) (c .below-half .ensures) in
+    let f = c .fits .code in
     let q = whole f (quotient _ (product f)) (omega arith) in
-    let r = whole f (remainder _ q) (omega arith) in
-    let s = whole f (sum (whole f (sum (product f) h) (omega arith)) r) (omega arith) in
-    held w16 (whole f (quotient _ s) (omega arith)) (omega (arith, size _ f)) .is ∙ ap (signedAs code) (rounds (natAbs code * 10))))
+    let m = sum (whole f (remainder _ (product f)) (omega arith)) (whole f (remainder _ q) (omega arith)) in
+    let a = sum q (whole f (quotient _ (whole f m (omega arith))) (omega arith)) in
+    fits w16 (whole f a (omega arith)) (omega (arith, size _ f)))
+    (λ c.
+    let f = c .fits .code in
+    let q = whole f (quotient _ (product f)) (omega arith) in
+    let m = sum (whole f (remainder _ (product f)) (omega arith)) (whole f (remainder _ q) (omega arith)) in
+    let a = sum q (whole f (quotient _ (whole f m (omega arith))) (omega arith)) in
+    reads (held w16 (whole f a (omega arith)) (omega (arith, size _ f))) (λ r. omega arith) (λ r. omega arith)
+    (λ r. omega arith)))
