@@ -8,6 +8,6 @@ pub fn tenths(code: i16) -> i16
 {
     let product = code as i32 * 10;
     let quotient = product / 256;
-    // One more, away from zero, where the rest is above 128, or is 128 and the quotient odd.
+    // One more, away from zero, where the rest is above 128, or is 128 and the quotient odd: where the two make 129.
     (quotient + (product % 256 + quotient % 2) / 129) as i16
 }
