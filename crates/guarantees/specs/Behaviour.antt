@@ -213,7 +213,7 @@ settleCount r budget = if r .powered then min budget (ticksDue (r .job)) else 0
 abbrev pub settleSaid : Reference → (budget : ℕ) → Said
 settleSaid r budget = if r .powered then says 1 (settleCount r budget ∷ []) else refused 7
 
--- ---- the readout: code × 10 / 256 to the nearest tenth of a degree, a half to the even one
+-- ---- the readout (document 02, P2): code × 10 / 256 to the nearest tenth of a degree, a half to the even one
 -- n / 256 to the nearest whole number, where it is no half
 abbrev pub rounded : ℕ → ℕ
 rounded n = (n + 128) / 256
