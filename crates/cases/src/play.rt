@@ -145,7 +145,7 @@ fn changed(m: Module) -> u32 {
     count
 }
 
-// A step that looks at the module.
+// A step that looks at the module, or at the readout.
 fn look(m: Module, step: Step) {
     let word = step.word;
     match word {

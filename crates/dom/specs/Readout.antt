@@ -31,7 +31,7 @@ pub record Nearest (code tenths : ℤ) : Type 0 where
   pub near : distance code tenths ≤ 128
   pub even : distance code tenths ≡ 128 → natAbs tenths % 2 ≡ 0
 
--- document 02's: 64, 192, −64 and −192 read out 2, 8, −2 and −8; the last code 1280, the first −1280
+-- document 02's: 64, 192, −64 and −192 read out 2, 8, −2 and −8; and the ends, 32,767 and −32,768, 1280 and −1280
 abbrev pub Examples : Type 0
 Examples =
     map tenthsOf (pos 64 ∷ pos 192 ∷ negsuc 63 ∷ negsuc 191 ∷ pos 32767 ∷ negsuc 32767 ∷ [])

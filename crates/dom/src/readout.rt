@@ -8,6 +8,7 @@ pub fn tenths(code: i16) -> i16
 {
     let product = code as i32 * 10;
     let quotient = product / 256;
-    // One more, away from zero, where the rest is above 128, or is 128 and the quotient odd: where the two make 129.
+    // Rest and quotient % 2 have the code's sign, and reach 129 where the rest is over a half, or is a half and the
+    // quotient odd: then it is one more, away from zero.
     (quotient + (product % 256 + quotient % 2) / 129) as i16
 }
