@@ -15,13 +15,13 @@ examples : Examples
 examples = refl
 
 -- ---- a rest is less than a half, more, or just that: twice the rest r beside d, as `nearest` tests it
-by-tests : (r d : ℕ) (low high : Bool) → ltb r d ≡ low → ltb d r ≡ high → (P : Type 0) → (ltb r d ≡ true → r < d → P) → (ltb r d ≡ false → ltb d r ≡ true → d < r → P) → (ltb r d ≡ false → ltb d r ≡ false → r ≡ d → P) → P
-by-tests r d true high l h P less more half = less l (ltb-true r d l)
-by-tests r d false true l h P less more half = more l h (ltb-true d r h)
-by-tests r d false false l h P less more half = half l h (omega (arith, ltb-false r d l, ltb-false d r h))
-
 pub by-rest : (r d : ℕ) (P : Type 0) → (ltb r d ≡ true → r < d → P) → (ltb r d ≡ false → ltb d r ≡ true → d < r → P) → (ltb r d ≡ false → ltb d r ≡ false → r ≡ d → P) → P
-by-rest r d = by-tests r d (ltb r d) (ltb d r) refl refl
+by-rest r d P less more half = by-tests (ltb r d) (ltb d r) refl refl
+  where
+    by-tests : (low high : Bool) → ltb r d ≡ low → ltb d r ≡ high → P
+    by-tests true high l h = less l (ltb-true r d l)
+    by-tests false true l h = more l h (ltb-true d r h)
+    by-tests false false l h = half l h (omega (arith, ltb-false r d l, ltb-false d r h))
 
 -- ---- distances
 apart-by : (a b : ℕ) (less : Bool) → ltb a b ≡ less → natAbs (cond less (negsuc (b - suc a)) (pos (a - b))) ≡ a - b + (b - a)
