@@ -15,6 +15,8 @@ use Rattle.answers.specs.declared.TickAnswer.{TickAnswer}
 use Rattle.answers.specs.declared.TickAnswer.the-variants as tick
 use Rattle.answers.specs.declared.SettleAnswer.{SettleAnswer}
 use Rattle.answers.specs.declared.SettleAnswer.the-variants as settle
+use Rattle.answers.specs.declared.UnsavedAnswer.{UnsavedAnswer}
+use Rattle.answers.specs.declared.UnsavedAnswer.the-variants as unsaved
 
 abbrev pub refusalNumber : Refusal → ℕ
 refusalNumber Port = 1
@@ -64,6 +66,11 @@ abbrev pub saidSettle : SettleAnswer → Said
 saidSettle (settle.Ticks count) = says 1 (count ∷ [])
 saidSettle (settle.Refused why) = refusedWith why
 
+-- the count of bytes
+abbrev pub saidUnsaved : UnsavedAnswer → Said
+saidUnsaved (unsaved.Bytes count) = says 1 (count ∷ [])
+saidUnsaved (unsaved.Refused why) = refusedWith why
+
 -- ---- which answer a call gets
 -- creation (document 01: making), by whether port, image length, thresholds length, checksum and thresholds' order are
 -- right: 1 to 5, the lowest number first
@@ -95,3 +102,7 @@ frameAnswer (action.Command word) value = frame.Written
 frameAnswer (action.Customer offset byte) value = frame.Written
 frameAnswer (action.Control i word) value = frame.Written
 frameAnswer (action.Read r increment) value = frame.Data value
+
+-- how much is unsaved (document 02, P3): 7 powered off
+abbrev pub unsavedAnswer : (powered : Bool) → ℕ → UnsavedAnswer
+unsavedAnswer powered count = cond powered (unsaved.Bytes count) (unsaved.Refused PoweredOff)

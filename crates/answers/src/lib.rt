@@ -1,6 +1,6 @@
 // What each call answers.
 ghost use mathlib.Core.Path.{_≡_};
-ghost use Rattle.answers.specs.Answers.{refusalNumber, creationAnswer, powerOnAnswer, callAnswer, frameAnswer};
+ghost use Rattle.answers.specs.Answers.{refusalNumber, creationAnswer, powerOnAnswer, callAnswer, frameAnswer, unsavedAnswer};
 use action::Action;
 
 // Why a call is refused.
@@ -41,6 +41,12 @@ pub enum TickAnswer {
 // The count of ticks that settling stands for.
 pub enum SettleAnswer {
     Ticks(u32),
+    Refused(Refusal),
+}
+
+// How many customer bytes are unsaved.
+pub enum UnsavedAnswer {
+    Bytes(u8),
     Refused(Refusal),
 }
 
@@ -128,6 +134,19 @@ impl FrameAnswer {
             Action::Dropped => FrameAnswer::Dropped,
             Action::Read(_, _) => FrameAnswer::Data(value),
             _ => FrameAnswer::Written,
+        }
+    }
+}
+
+impl UnsavedAnswer {
+    // The answer where so many bytes are unsaved: 7 when off.
+    pub fn of(powered: bool, count: u8) -> UnsavedAnswer
+        ensures { λ r. ⌜ r ≡ unsavedAnswer powered count ⌝ }
+    {
+        if powered {
+            UnsavedAnswer::Bytes(count)
+        } else {
+            UnsavedAnswer::Refused(Refusal::PoweredOff)
         }
     }
 }

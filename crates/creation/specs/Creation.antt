@@ -12,19 +12,21 @@ use Rattle.store.specs.Bytes.{zeros}
 use Rattle.thresholds.specs.Thresholds.{thresholdsOf, ordered}
 use Rattle.monitor.specs.Monitor.{noMonitor}
 use Rattle.alarms.specs.Alarms.{noAlarms}
+use Rattle.differing.specs.Differing.{fullCount}
 use Rattle.bus.specs.Bus.{noBus}
 use Rattle.answers.specs.Answers.{creationAnswer}
 use Rattle.xenpak.specs.Calls.{taken}
 use Rattle.xenpak.specs.declared.Module.{Module}
 use Rattle.xenpak.specs.declared.Outcome.{Outcome}
 
--- off, with this store and these thresholds, all else at zero
+-- off, with this store and these thresholds, its customer bytes counted, all else at zero
 abbrev pub fresh : ℕ → List ℕ → List ℕ → Module
 fresh port image thresholds =
     record {
       store = image;
       job = noJob;
       copy = zeros 256;
+      differing = fullCount image (zeros 256);
       powered = false;
       port = port;
       thresholds = thresholds;

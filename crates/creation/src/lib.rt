@@ -5,6 +5,7 @@ ghost use Rattle.creation.specs.Creation.{Copied, fresh, blank, make};
 use alarms::Alarms;
 use answers::Answer;
 use bus::Bus;
+use differing::Differing;
 use jobs::Job;
 use monitor::Monitor;
 use nvr::image::checksum_right;
@@ -28,14 +29,16 @@ fn copied(bytes: &[u8], into: &mut [u8]) -> bool
     true
 }
 
-// Off, with this store and these thresholds, all else at zero.
+// Off, with this store and these thresholds, its customer bytes counted, all else at zero.
 fn fresh(port: u8, store: [u8; 256], thresholds: [u8; 40]) -> Module
     ensures { λ r. ⌜ r ≡ fresh port store thresholds ⌝ }
 {
+    let differing = Differing::of(&store);
     Module {
         store: store,
         job: Job::IDLE,
         copy: [0; 256],
+        differing: differing,
         powered: false,
         port: port,
         thresholds: thresholds,

@@ -31,6 +31,7 @@ use Rattle.guarantees.proofs.Located.{Located, apart, located, at0000, 
 use Rattle.guarantees.proofs.Reading.{bits-are, Low, low0, low1, low2, low3, alike, HeldSound, none, some}
 use Rattle.guarantees.proofs.Transition.{referenceOf, JobSound, transition, valueRead, step-said, Fixed, step-fixed, modelOf, step-model}
 use Rattle.guarantees.proofs.Memory.{FirstSound, running, over, Remembers, memory-sound}
+use Rattle.guarantees.proofs.Unsaved.{Counted, to-counted, unsaved-is}
 use Rattle.guarantees.proofs.Store.{step-sound}
 use Rattle.guarantees.proofs.Alarms.{LatchSound, AlarmsSound, alarms-sound, rx-bit, tx-bit, lasi-bit, flag-bit, line-is}
 
@@ -99,6 +100,7 @@ pub record Sound (h : List Event) (m : Module) : Type 0 where
   pub job : JobSound (m .job) (m .command)
   pub alarms : AlarmsSound (m .thresholds) h (m .alarms)
   pub memory : Remembers (remembered h) m
+  pub counted : Counted m
 
 module _ (m : Module) (h : List Event) (ok : Sound h m) (on : m .powered ≡ true) where
   abbrev k : Memory
@@ -167,6 +169,7 @@ step-whole m c h ok =
           subst (λ (f : Fixed). AlarmsSound (f .thresholds) (stepEvent (m .port) (referenceOf m) c ∷ h) (step m c .next .alarms)) (sym (step-fixed m (ok .job) c))
           (alarms-sound t h (ok .alarms));
       memory = memory-sound t (remembered h) (ok .memory);
+      counted = to-counted t (ok .job) (ok .counted);
     }
 
 pub run-answers : (m : Module) (h : List Event) → Sound h m → (cs : List Call) → answers m cs ≡ answersByModel (modelOf m h) cs
@@ -177,7 +180,8 @@ run-answers m h ok (c ∷ cs) =
     (run-answers (step m c .next) _ (step-whole m c h ok) cs ∙ ap (λ (k : Model). answersByModel k cs) (step-model m (ok .job) h c))
 
 pub seen-is : (m : Module) (h : List Event) → Sound h m → seen m ≡ seenByModel (modelOf m h)
-seen-is m h ok = ap₂ (λ (b : Bool) (n : ℕ). record { line = b; counter = n; stored = λ o. getD (m .store) o 0 }) (line-is m h (ok .alarms)) (ok .memory .count)
+seen-is m h ok =
+    λ j. record { line = line-is m h (ok .alarms) j; counter = ok .memory .count j; stored = λ o. getD (m .store) o 0; unsaved = unsaved-is m (ok .counted) j }
 
 -- a view of the record that is the model's
 pub run-along : {A : Type 0} (f : Module → A) (g : Model → A) → ((m : Module) (h : List Event) → Sound h m → f m ≡ g (modelOf m h))

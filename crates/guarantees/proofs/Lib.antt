@@ -6,6 +6,7 @@ pub mod Transition
 pub mod Store
 pub mod Alarms
 pub mod Memory
+pub mod Unsaved
 pub mod EveryAnswer
 pub mod Making
 pub mod Settling

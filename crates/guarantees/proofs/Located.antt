@@ -3,11 +3,12 @@
 -- Assumes nothing.
 use Prim.Native.Nat.{ℕ, zero, suc, _+_, _-_, _/_, _≤_, _<_}
 use native.Mathlib.Omega.{arith}
-use borrow.Author.Tests.{leb-true, leb-false, eqb-true, eqb-false, le-leb, lt-leb, ne-eqb}
+use borrow.Author.Tests.{leb-true, leb-false, eqb-true, eqb-false, lt-leb, ne-eqb}
 use mathlib.Core.Bool.{Bool, true, false, cond, _&&_, _||_}
 use mathlib.Core.Path.{_≡_, refl, sym, ap, _∙_, subst}
 use lib.Dec.{eqb, leb}
 use Rattle.registers.specs.Map.{isLow, rows, registerAt}
+use Rattle.registers.proofs.Between.{range-true, in-range}
 use Rattle.registers.specs.declared.Register.{Register}
 use Rattle.registers.specs.declared.Register.the-variants.{PmaControl, NvrControl, Copy, Customer, Control, Status, Threshold, Sample, Flags, Unlisted}
 use Rattle.guarantees.specs.Reference.{within, copyAt, customerAt}
@@ -53,14 +54,6 @@ pub apart : (a : ℕ) → single a ≡ false → (k : ℕ) → single k ≡ true
 apart a f k t = ne-eqb a k (λ e. let z : true ≡ false = sym t ∙ ap single (sym e) ∙ f in absurd (let y : _≡_ {A = ℕ} 0 1 = cc in omega arith))
 
 -- ---- the map
-within-true : (first last a : ℕ) → within first last a ≡ true → (first ≤ a) × (a ≤ last)
-within-true first last a t = go (leb first a) (leb a last) refl refl t
-  where
-    go : (p q : Bool) → leb first a ≡ p → leb a last ≡ q → (p && q) ≡ true → (first ≤ a) × (a ≤ last)
-    go true true e f t = (leb-true first a e, leb-true a last f)
-    go true false e f t = absurd (let z : _≡_ {A = ℕ} 0 1 = cc in omega arith)
-    go false q e f t = absurd (let z : _≡_ {A = ℕ} 0 1 = cc in omega arith)
-
 below : (first last a : ℕ) → a < first → within first last a ≡ false
 below first last a h = rw (lt-leb first a h)
 
@@ -70,9 +63,6 @@ above first last a h = go (leb first a)
     go : (b : Bool) → (b && leb a last) ≡ false
     go true = lt-leb a last h
     go false = refl
-
-inside : (first last a : ℕ) → first ≤ a → a ≤ last → within first last a ≡ true
-inside first last a h k = rw (le-leb first a h, le-leb a last k)
 
 -- an address among n from k on is one of them
 abbrev Each : (ℕ → Type 0) → ℕ → ℕ → Type 0
@@ -88,7 +78,7 @@ among P k (suc n) a h l e = go (eqb k a) refl (λ d. among P (k + 1) n a (omega 
     go false p f = let d : k ≡ a → ⊥ = eqb-false k a p in f (omega arith)
 
 without : (first last a : ℕ) → within first last a ≡ false → first ≤ a → a ≤ last → ⊥
-without first last a f h k = let z : true ≡ false = sym (inside first last a h k) ∙ f in let y : _≡_ {A = ℕ} 0 1 = cc in omega arith
+without first last a f h k = let z : true ≡ false = sym (in-range first last a h k) ∙ f in let y : _≡_ {A = ℕ} 0 1 = cc in omega arith
 
 -- neither in the first part nor in the rest
 join : (first middle last a : ℕ) → within first middle a ≡ false → within (middle + 1) last a ≡ false → within first last a ≡ false
@@ -99,11 +89,11 @@ join first middle last a p q = go (within first last a) refl
     part false e h k = without (middle + 1) last a q (omega (arith, leb-false a middle e)) k
 
     go : (b : Bool) → within first last a ≡ b → b ≡ false
-    go true e = let w = within-true first last a e in absurd (part (leb a middle) refl (w .0) (w .1))
+    go true e = let w = range-true first last a e in absurd (part (leb a middle) refl (w .0) (w .1))
     go false e = refl
 
 only : (k a : ℕ) → within k k a ≡ true → k ≡ a
-only k a t = let w = within-true k k a t in omega arith
+only k a t = let w = range-true k k a t in omega arith
 
 other : (k a : ℕ) → within k k a ≡ false → eqb a k ≡ false
 other k a f = ne-eqb a k (λ e. without k k a f (omega arith) (omega arith))
@@ -115,7 +105,7 @@ module _ (a : ℕ) where
 
   -- one of n addresses from k on, each with a register of its own
   listed : (k n : ℕ) (f : ℕ → Register) → within k (k + n) a ≡ true → Each (λ x. Located x (f x)) k (n + 1) → Located a (f a)
-  listed k n f t e = let w = within-true k (k + n) a t in among (λ x. Located x (f x)) k (n + 1) a (w .0) (omega arith) e
+  listed k n f t e = let w = range-true k (k + n) a t in among (λ x. Located x (f x)) k (n + 1) a (w .0) (omega arith) e
 
   singles : eqb a 0x0000 ≡ false → eqb a 0x8000 ≡ false → within 0x9000 0x9007 a ≡ false → within 0xa060 0xa061 a ≡ false → within 0xa064 0xa069 a ≡ false
       → within 0xa070 0xa071 a ≡ false → within 0xa074 0xa075 a ≡ false → single a ≡ false
@@ -133,17 +123,17 @@ module _ (a : ℕ) where
 
   copy-at : (first last : ℕ) → 0x8007 ≤ first → last ≤ 0x8106 → (first ≤ a → a ≤ last → customerAt a ≡ false) → within first last a ≡ true → Located a (Copy (a - 0x8007))
   copy-at first last h k f t =
-      let w = within-true first last a t in
-      copy (copy-range (omega arith) (omega arith)) (inside 0x8007 0x8106 a (omega arith) (omega arith)) (f (w .0) (w .1)) (below 0xa000 0xa027 a (omega arith))
+      let w = range-true first last a t in
+      copy (copy-range (omega arith) (omega arith)) (in-range 0x8007 0x8106 a (omega arith) (omega arith)) (f (w .0) (w .1)) (below 0xa000 0xa027 a (omega arith))
 
   customer-at : within 0x807e 0x80ad a ≡ true → Located a (Customer (a - 0x8007))
   customer-at t =
-      let w = within-true 0x807e 0x80ad a t in
-      customer (copy-range (omega arith) (omega arith)) (inside 0x8007 0x8106 a (omega arith) (omega arith)) t (below 0xa000 0xa027 a (omega arith))
+      let w = range-true 0x807e 0x80ad a t in
+      customer (copy-range (omega arith) (omega arith)) (in-range 0x8007 0x8106 a (omega arith) (omega arith)) t (below 0xa000 0xa027 a (omega arith))
 
   threshold-at : thresholdsAt a ≡ true → Located a (Threshold (a - 0xa000))
   threshold-at t =
-      let w = within-true 0xa000 0xa027 a t in
+      let w = range-true 0xa000 0xa027 a t in
       threshold (threshold-range (w .0) (w .1)) (above 0x8007 0x8106 a (omega arith)) (above 0x807e 0x80ad a (omega arith)) t
 
   pub located : Located a (registerAt a)

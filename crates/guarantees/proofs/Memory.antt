@@ -107,7 +107,7 @@ memory-sound (lining l) k ok = ok
 memory-sound (sampling s) k ok = record { first = ok .first; count = ok .count; sample = refl; held = ok .held }
 memory-sound (addressing a) k ok = ok
 memory-sound {m} (commanding v free) k ok = record { first = start-first (m .job) v free (ok .first); count = ok .count; sample = ok .sample; held = ok .held }
-memory-sound (writing offset v) k ok = ok
+memory-sound (writing offset v at) k ok = ok
 memory-sound (controlling i j mask law v) k ok = ok
 memory-sound {m} (reading increment) k ok =
     let a = m .bus .address in

@@ -3,7 +3,7 @@
 use Prim.Native.Nat.{_-_}
 use mathlib.Core.Path.{_≡_, refl, ap}
 use lib.ListN.{getD}
-use Rattle.answers.specs.Answers.{refusalNumber, saidPlain, saidFrame, saidTick, saidSettle}
+use Rattle.answers.specs.Answers.{refusalNumber, saidPlain, saidFrame, saidTick, saidSettle, saidUnsaved}
 use Rattle.answers.specs.declared.Refusal.{Refusal}
 use Rattle.answers.specs.declared.Refusal.the-variants.{Port, ImageLength, ThresholdsLength, Checksum, ThresholdOrder, Temperature, PoweredOff, PoweredOn}
 use Rattle.answers.specs.declared.Answer.{Answer}
@@ -14,9 +14,11 @@ use Rattle.answers.specs.declared.TickAnswer.{TickAnswer}
 use Rattle.answers.specs.declared.TickAnswer.the-variants as tick
 use Rattle.answers.specs.declared.SettleAnswer.{SettleAnswer}
 use Rattle.answers.specs.declared.SettleAnswer.the-variants as settle
+use Rattle.answers.specs.declared.UnsavedAnswer.{UnsavedAnswer}
+use Rattle.answers.specs.declared.UnsavedAnswer.the-variants as unsaved
 use Rattle.calls.specs.Calls.{step}
 use Rattle.calls.specs.declared.Call.the-variants as call
-use Rattle.guarantees.specs.Guarantees.{Kinds, refusals, plainTold, frameTold, tickTold, settleTold, Numbered}
+use Rattle.guarantees.specs.Guarantees.{Kinds, refusals, plainTold, frameTold, tickTold, settleTold, unsavedTold, Numbered}
 
 pub kinds : Kinds
 unfolding step
@@ -39,7 +41,7 @@ refusal-told PoweredOff = refl
 refusal-told PoweredOn = refl
 
 pub numbered : Numbered
-numbered = record { plain = plains; frames = frames; ticks = ticks; settling = settlings }
+numbered = record { plain = plains; frames = frames; ticks = ticks; settling = settlings; unsaved = unsaveds }
   where
     plains : (a : Answer) → plainTold (saidPlain a) ≡ a
     plains plain.Accepted = refl
@@ -62,3 +64,7 @@ numbered = record { plain = plains; frames = frames; ticks = ticks; settling = s
     settlings : (a : SettleAnswer) → settleTold (saidSettle a) ≡ a
     settlings (settle.Ticks count) = refl
     settlings (settle.Refused why) = ap settle.Refused (refusal-told why)
+
+    unsaveds : (a : UnsavedAnswer) → unsavedTold (saidUnsaved a) ≡ a
+    unsaveds (unsaved.Bytes count) = refl
+    unsaveds (unsaved.Refused why) = ap unsaved.Refused (refusal-told why)

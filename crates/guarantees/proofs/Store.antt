@@ -2,15 +2,16 @@
 -- Assumes nothing.
 use Prim.Native.Nat.{ℕ, _+_, _/_, _%_, _≤_}
 use native.Mathlib.Omega.{arith}
-use mathlib.Core.Bool.{Bool, true, false, cond, not, _&&_}
+use mathlib.Core.Bool.{Bool, true, false, cond, not}
 use mathlib.Core.List.{List, [], _∷_, _++_}
 use mathlib.Core.Logic.{_≢_}
 use mathlib.Core.Path.{_≡_, refl, sym, ap, _∙_, subst}
-use lib.Dec.{eqb, leb, ltb}
+use lib.Dec.{eqb, ltb}
 use lib.ListN.{length, getD, set, take, length-set}
 use lib.Seq.{getD-set-other, take-set-le}
-use borrow.Author.Tests.{leb-true, ltb-true, le-leb}
+use borrow.Author.Tests.{ltb-true}
 use Rattle.registers.specs.Map.{registerAt}
+use Rattle.registers.proofs.Between.{range-true, in-range}
 use Rattle.nvr.specs.Command.{keptBits, commandOf}
 use Rattle.nvr.specs.declared.command.Command.{Command}
 use Rattle.nvr.specs.declared.command.Command.the-variants as command
@@ -31,23 +32,6 @@ use Rattle.guarantees.proofs.StatusWord.{kept-masked, idle, done, faile
 use Rattle.guarantees.proofs.Transition.{jobRef, referenceOf, BurnSound, JobSound, Reaction, Transition, unchanged, powering, cutting, resetting, ticking, lining, sampling, addressing, commanding, writing, controlling, reading, transition, new-job, step-ref, Fixed, step-fixed}
 
 -- ---- every job is sound
-customer-low : (o : ℕ) → customerOffset o ≡ true → 119 ≤ o
-customer-low o t = go (leb 119 o) refl t
-  where
-    go : (b : Bool) → leb 119 o ≡ b → (b && leb o 166) ≡ true → 119 ≤ o
-    go true p t = leb-true 119 o p
-    go false p t = absurd (let z : _≡_ {A = ℕ} 0 1 = cc in omega arith)
-
-customer-high : (o : ℕ) → customerOffset o ≡ true → o ≤ 166
-customer-high o t = go (leb 119 o) t
-  where
-    go : (b : Bool) → (b && leb o 166) ≡ true → o ≤ 166
-    go true t = leb-true o 166 t
-    go false t = absurd (let z : _≡_ {A = ℕ} 0 1 = cc in omega arith)
-
-customer : (o : ℕ) → 119 ≤ o → o ≤ 166 → customerOffset o ≡ true
-customer o h k = rw (le-leb 119 o h, le-leb o 166 k)
-
 cond-all : {A : Type 0} (P : A → Type 0) (b : Bool) {x y : A} → (b ≡ true → P x) → (b ≡ false → P y) → P (cond b x y)
 cond-all P true p q = p refl
 cond-all P false p q = q refl
@@ -59,7 +43,7 @@ command-burns v =
     cond-all BurnSound (eqb (v % 4) 3) (λ _. cond-all BurnSound (bit 5 v) (λ _. omega arith) (λ _. tt))
     (λ _. cond-all BurnSound (not (eqb (v % 4) 2)) (λ _. tt)
     (λ _. cond-all BurnSound (not (bit 5 v)) (λ _. tt)
-    (λ _. cond-all BurnSound (customerOffset o) (λ t. (customer-low o t, omega arith, customer-high o t)) (λ _. tt))))
+    (λ _. cond-all BurnSound (customerOffset o) (λ t. let r = range-true 119 166 o t in (r .0, omega arith, r .1)) (λ _. tt))))
 
 command-ended : (c : Command) → Ended (job.commandJob c .ended)
 command-ended command.LoadAll = idle
@@ -115,7 +99,7 @@ to-sound (lining l) h = h
 to-sound (sampling s) h = h
 to-sound (addressing a) h = h
 to-sound (commanding v free) h = command-sound v
-to-sound (writing offset v) h = h
+to-sound (writing offset v at) h = h
 to-sound (controlling i k mask law v) h = h
 to-sound {m} (reading increment) h = read-sound (m .job) (m .command) h (m .bus .address)
 
@@ -163,7 +147,7 @@ to-store (lining l) = refl
 to-store (sampling s) = refl
 to-store (addressing a) = refl
 to-store (commanding v free) = refl
-to-store (writing offset v) = refl
+to-store (writing offset v at) = refl
 to-store (controlling i k mask law v) = refl
 to-store {m} (reading increment) = reads-store (referenceOf m) (m .bus .address) (incremented (m .bus .address)) increment
 
@@ -196,13 +180,13 @@ all-append (e ∷ l) k x y = (x .0, all-append l k (x .1) y)
 tick-entries : (copy : List ℕ) (j : Job) → BurnSound j → AllCustomer (tickLog copy j)
 tick-entries copy none h = tt
 tick-entries copy (load due last) h = tt
-tick-entries copy (burn due last) h = (customer due (omega arith) (omega arith), tt)
+tick-entries copy (burn due last) h = (in-range 119 166 due (omega arith) (omega arith), tt)
 
 cut-entries : (j : Job) (cut : Cut) → BurnSound j → AllCustomer (cutLog j cut)
 cut-entries none cut h = tt
 cut-entries (load due last) cut h = tt
 cut-entries (burn due last) Clean h = tt
-cut-entries (burn due last) (Torn byte) h = (customer due (omega arith) (omega arith), tt)
+cut-entries (burn due last) (Torn byte) h = (in-range 119 166 due (omega arith) (omega arith), tt)
 
 to-entries : {m n : Module} {x : Said} {y : Reaction} → Transition m n x y → JobSound (m .job) (m .command) → AllCustomer (y .entries)
 to-entries (unchanged p q) h = tt
@@ -214,7 +198,7 @@ to-entries (lining l) h = tt
 to-entries (sampling s) h = tt
 to-entries (addressing a) h = tt
 to-entries (commanding v free) h = tt
-to-entries (writing offset v) h = tt
+to-entries (writing offset v at) h = tt
 to-entries (controlling i k mask law v) h = tt
 to-entries (reading increment) h = tt
 
@@ -248,4 +232,4 @@ pub applied-front : (l : List Entry) (s : List ℕ) → AllCustomer l → take 1
 unfolding applied
 applied-front [] s h = refl
 applied-front (e ∷ l) s h =
-    applied-front l (set s (e .offset) (e .byte)) (h .1) ∙ take-set-le 119 s (e .offset) (e .byte) (customer-low (e .offset) (h .0))
+    applied-front l (set s (e .offset) (e .byte)) (h .1) ∙ take-set-le 119 s (e .offset) (e .byte) (range-true 119 166 (e .offset) (h .0) .0)

@@ -18,12 +18,16 @@ use Rattle.mdio.specs.Frame.{asked, requestOf}
 use Rattle.mdio.specs.declared.Request.{Request}
 use Rattle.mdio.specs.declared.Request.the-variants as request
 use Rattle.registers.specs.Map.{registerAt}
+use Rattle.registers.proofs.Between.{range-true, in-range}
 use Rattle.registers.specs.declared.Register.{Register}
 use Rattle.action.specs.Action.{actionOf, requestAction, writeTo}
 use Rattle.action.specs.declared.Action.{Action}
 use Rattle.action.specs.declared.Action.the-variants as action
 use Rattle.nvr.specs.Command.{keptBits, burnIn, commandOf}
-use Rattle.nvr.specs.Image.{regionOf}
+use Rattle.nvr.specs.Image.{regionOf, isCustomer}
+use Rattle.nvr.specs.declared.image.Region.{Region}
+use Rattle.nvr.specs.declared.image.Region.the-variants as region
+use Rattle.nvr.proofs.Regions.{customer-is}
 use Rattle.nvr.specs.declared.command.Command.{Command}
 use Rattle.nvr.specs.declared.command.Command.the-variants as command
 use Rattle.jobs.specs.Job as job
@@ -143,6 +147,10 @@ pub record JobSound (j : ModuleJob) (command : ℕ) : Type 0 where
 busy-is : (j : ModuleJob) (command : ℕ) → JobSound j command → busy (wordOf j command) ≡ isBusy j
 busy-is j command h = busy-word command (h .kept) (eqb (j .kind) 0) (h .ended)
 
+-- the customer registers are the customer bytes'
+customer-offset : (a : ℕ) → customerAt a ≡ true → customerOffset (a - 0x8007) ≡ true
+customer-offset a t = let r = range-true 0x807e 0x80ad a t in in-range 119 166 (a - 0x8007) (omega arith) (omega arith)
+
 -- ---- one call
 -- what the model makes of a call: its next reference model and answer, the burn log's entries, the event
 pub record Reaction : Type 0 where
@@ -170,7 +178,7 @@ pub data Transition (m : Module) : Module → Said → Reaction → Type 0 where
   addressing : {x : Said} (a : ℕ) → Transition m (moduleAfter m (action.SetAddress a)) x (reacts (withAddress a (referenceOf m)) x [] nothing)
   commanding : {x : Said} (v : ℕ) → isBusy (m .job) ≡ false
       → Transition m (moduleAfter m (action.Command v)) x (reacts (commanded v (referenceOf m)) x [] nothing)
-  writing : {x : Said} (offset v : ℕ)
+  writing : {x : Said} (offset v : ℕ) → customerOffset offset ≡ true
       → Transition m (moduleAfter m (action.Customer offset (v % 256))) x (reacts (withCopy (set (m .copy) offset (v % 256)) (referenceOf m)) x [] nothing)
   -- control i is at 9000 + k, under this mask
   controlling : {x : Said} (i k mask : ℕ) → ((c : Controls) (v : ℕ) → controlsRef (controlWritten c i v) ≡ set (controlsRef c) k (bitAnd v mask)) → (v : ℕ)
@@ -217,7 +225,7 @@ module _ (m : Module) where
   on-write on h v value {a} (copy s c u t) = drops a v value s u
   on-write on h v value {a} (customer s c u t) =
       rw (apart a s 0x0000 refl, apart a s 0x8000 refl, u)
-      (unless (busy (wordOf (m .job) (m .command))) (isBusy (m .job)) (busy-is (m .job) (m .command) h) (action.Customer (a - 0x8007) (v % 256)) value refl (λ _. writing (a - 0x8007) v))
+      (unless (busy (wordOf (m .job) (m .command))) (isBusy (m .job)) (busy-is (m .job) (m .command) h) (action.Customer (a - 0x8007) (v % 256)) value refl (λ _. writing (a - 0x8007) v (customer-offset a u)))
   on-write on h v value at9000 = controlling 0 0 (maskAt 0x9000) (λ c v. refl) v
   on-write on h v value at9001 = controlling 1 1 (maskAt 0x9001) (λ c v. refl) v
   on-write on h v value at9002 = controlling 2 2 (maskAt 0x9002) (λ c v. refl) v
@@ -383,21 +391,15 @@ command-word command.BurnCustomer w = refl
 command-word (command.BurnByte offset) w = refl
 command-word command.Failed w = refl
 
--- the image's customer region is offsets 119 to 166
-burn-ref : (o : ℕ) → commandRef (burnIn (regionOf o) o) ≡ cond (customerOffset o) (burn o o) none
+burn-in : (r : Region) (o : ℕ) → commandRef (burnIn r o) ≡ cond (isCustomer r) (burn o o) none
 unfolding commandRef
-burn-ref o = go (leb o 117) (leb o 118) (leb o 166) (leb 119 o) refl refl refl refl
-  where
-    go : (a b c d : Bool) → leb o 117 ≡ a → leb o 118 ≡ b → leb o 166 ≡ c → leb 119 o ≡ d
-        → commandRef (burnIn (regionOf o) o) ≡ cond (customerOffset o) (burn o o) none
-    go true b c true p q r s = absurd (omega (arith, leb-true o 117 p, leb-true 119 o s))
-    go true b c false p q r s = rw (p, s)
-    go false true c true p q r s = absurd (omega (arith, leb-true o 118 q, leb-true 119 o s))
-    go false true c false p q r s = rw (p, q, s)
-    go false false true true p q r s = rw (p, q, r, s)
-    go false false true false p q r s = absurd (omega (arith, leb-false o 118 q, leb-false 119 o s))
-    go false false false true p q r s = rw (p, q, r, s)
-    go false false false false p q r s = absurd (omega (arith, leb-false o 118 q, leb-false 119 o s))
+burn-in region.Basic o = refl
+burn-in region.Checksum o = refl
+burn-in region.Customer o = refl
+burn-in region.Vendor o = refl
+
+burn-ref : (o : ℕ) → commandRef (burnIn (regionOf o) o) ≡ cond (customerOffset o) (burn o o) none
+burn-ref o = burn-in (regionOf o) o ∙ ap (λ (b : Bool). cond b (burn o o) none) (customer-is o)
 
 command-ref : (v : ℕ) → commandRef (commandOf v) ≡ commandJob v
 unfolding commandOf commandJob commandRef words.bit
@@ -453,7 +455,7 @@ to-ref h (lining l) = refl
 to-ref h (sampling s) = refl
 to-ref h (addressing a) = refl
 to-ref {m} h (commanding v free) = λ i. withWord (new-word v i) (new-job v i) (referenceOf m)
-to-ref h (writing offset v) = refl
+to-ref h (writing offset v at) = refl
 to-ref {m} h (controlling i k mask law v) = ap (λ (c : List ℕ). withControls c (referenceOf m)) (law (m .alarms .controls) v)
 to-ref {m} h (reading increment) = reads-ref m h (m .bus .address) increment
 
@@ -478,7 +480,7 @@ to-fixed (lining l) = refl
 to-fixed (sampling s) = refl
 to-fixed (addressing a) = refl
 to-fixed (commanding v free) = refl
-to-fixed (writing offset v) = refl
+to-fixed (writing offset v at) = refl
 to-fixed (controlling i k mask law v) = refl
 to-fixed (reading increment) = refl
 
@@ -515,7 +517,7 @@ to-said (lining l) = refl
 to-said (sampling s) = refl
 to-said (addressing a) = refl
 to-said (commanding v free) = refl
-to-said (writing offset v) = refl
+to-said (writing offset v at) = refl
 to-said (controlling i k mask law v) = refl
 to-said (reading increment) = refl
 

@@ -1,4 +1,4 @@
--- Demands 2 and 3: every answer of every list, and two runs.
+-- Demands 2 and 3: every answer of every list, and two runs. Document 02, P3: how much is unsaved.
 -- Assumes nothing.
 use Prim.Native.Nat.{ℕ}
 use mathlib.Core.Bool.{Bool, true, false}
@@ -8,10 +8,14 @@ use lib.ListN.{length, getD, replicate}
 use Rattle.work.specs.Work.{workOf}
 use Rattle.work.specs.declared.Work.{Work}
 use Rattle.work.specs.declared.Work.the-variants as work
-use Rattle.store.specs.Bytes.{tornStore}
+use Rattle.store.specs.Bytes.{tornStore, zeros}
+use Rattle.jobs.specs.Job.{noJob}
+use Rattle.differing.specs.Differing.{fullCount, differingCut}
+use Rattle.differing.specs.declared.Differing.{Differing}
+use Rattle.alarms.specs.Alarms.{noAlarms}
 use Rattle.store.specs.declared.Cut.the-variants.{Clean}
 use Rattle.answers.specs.Answers.{saidSettle}
-use Rattle.xenpak.specs.Calls.{powerOn, powerCut}
+use Rattle.xenpak.specs.Calls.{started, withBytes, powerOn, powerCut}
 use Rattle.xenpak.specs.declared.Module.{Module}
 use Rattle.reads.specs.Reads.{lineOf}
 use Rattle.calls.specs.Calls.{step, run}
@@ -23,11 +27,12 @@ use Rattle.guarantees.specs.Reference.{none, Reference, reference, zeroC
 use Rattle.guarantees.specs.BurnLog.{Entry, burnLog, applied}
 use Rattle.guarantees.specs.History.{Model, model, fresh, lineByHistory}
 use Rattle.guarantees.specs.Behaviour.{makeRefusal, remembered, seenByModel, alongModel, settleCount, settleSaid}
-use Rattle.guarantees.specs.Guarantees.{answers, seen, along, ByModel, EveryAnswer, powerCycle, TwoRuns, Demand3}
+use Rattle.guarantees.specs.Guarantees.{answers, seen, along, ByModel, EveryAnswer, CountsUnsaved, UnsavedCount, powerCycle, TwoRuns, Demand3}
 use Rattle.guarantees.proofs.Transition.{referenceOf, JobSound, zeros-are, Fixed, fixedOf, step-fixed, modelOf}
 use Rattle.guarantees.proofs.Store.{no-job-sound, step-sound, run-store, AllCustomer, log-customer, applied-length, applied-elsewhere, applied-front}
 use Rattle.guarantees.proofs.Alarms.{no-alarms, line-is}
 use Rattle.guarantees.proofs.Memory.{no-memory}
+use Rattle.guarantees.proofs.Unsaved.{Counted, fresh-counts, unsaved-is}
 use Rattle.guarantees.proofs.EveryAnswer.{Sound, run-answers, seen-is, run-along, run-whole}
 use Rattle.guarantees.proofs.Making.{make-said, make-fresh, make-accepted, make-size, refused-blank, refusal-front}
 use Rattle.guarantees.proofs.Settling.{settle-said, settle-ticks}
@@ -43,35 +48,44 @@ module _ (p : ℕ) (image t : List ℕ) where
   model-is : modelOf made [] ≡ fresh p image t
   model-is = ap (λ (r : Reference). model p t r []) (initial-is p image t)
 
-  sound : Sound [] made
-  unfolding remembered
-  sound = record { job = no-job-sound; alarms = no-alarms t; memory = no-memory }
+  module _ (size : length image ≡ 256) where
+    sound : Sound [] made
+    unfolding remembered
+    sound = record { job = no-job-sound; alarms = no-alarms t; memory = no-memory; counted = fresh-counts image size }
 
-  lines-are : (cs : List Call) → along lineOf made cs ≡ alongModel lineByHistory (fresh p image t) cs
-  lines-are cs =
-      run-along lineOf lineByHistory (λ m h ok. line-is m h (ok .alarms)) made [] sound cs ∙ ap (λ (k : Model). alongModel lineByHistory k cs) model-is
+    lines-are : (cs : List Call) → along lineOf made cs ≡ alongModel lineByHistory (fresh p image t) cs
+    lines-are cs =
+        run-along lineOf lineByHistory (λ m h ok. line-is m h (ok .alarms)) made [] sound cs ∙ ap (λ (k : Model). alongModel lineByHistory k cs) model-is
 
-  by-model : (cs : List Call) → ByModel made (fresh p image t) cs
-  by-model cs =
-      subst (λ (k : Model). ByModel made k cs) model-is
-      (record {
-        answered = run-answers made [] sound cs;
-        seen-alike = run-along seen seenByModel seen-is made [] sound cs;
-        settled = λ budget. run-whole (λ m k. saidSettle (settle m budget .answer) ≡ settleSaid (k .reference) budget) (λ m h ok. settle-said m budget) made [] sound cs;
-        ticked = λ budget. run-whole (λ m k. settle m budget .next ≡ run m (replicate (settleCount (k .reference) budget) Tick)) (λ m h ok. settle-ticks m budget) made [] sound cs;
-      })
+    run-counted : (cs : List Call) → Counted (run made cs)
+    run-counted cs = run-whole (λ m k. Counted m) (λ m h ok. ok .counted) made [] sound cs
+
+    by-model : (cs : List Call) → ByModel made (fresh p image t) cs
+    by-model cs =
+        subst (λ (k : Model). ByModel made k cs) model-is
+        (record {
+          answered = run-answers made [] sound cs;
+          seen-alike = run-along seen seenByModel seen-is made [] sound cs;
+          settled = λ budget. run-whole (λ m k. saidSettle (settle m budget .answer) ≡ settleSaid (k .reference) budget) (λ m h ok. settle-said m budget) made [] sound cs;
+          ticked = λ budget. run-whole (λ m k. settle m budget .next ≡ run m (replicate (settleCount (k .reference) budget) Tick)) (λ m h ok. settle-ticks m budget) made [] sound cs;
+        })
 
 pub every-answer : EveryAnswer
 every-answer p image t =
     record {
       answered = make-said p image t;
       blank = refused-blank p image t;
-      lives = λ e cs. subst (λ (a : Module). ByModel a (fresh p image t) cs) (sym (make-fresh p image t e)) (by-model p image t cs);
+      lives = λ e cs. subst (λ (a : Module). ByModel a (fresh p image t) cs) (sym (make-fresh p image t e)) (by-model p image t (make-size p image t e) cs);
     }
 
--- ---- power-on starts from port, thresholds and store alone
-abbrev startFrom : Fixed → List ℕ → Module
-startFrom f s = run (creation.fresh (f .port) s (f .thresholds)) (PowerOn ∷ [])
+-- ---- the quick answer is the full count
+pub unsaved-count : UnsavedCount
+unsaved-count p image t cs e =
+    subst (λ (a : Module). CountsUnsaved (run a cs)) (sym (make-fresh p image t e)) (unsaved-is (run (made p image t) cs) (run-counted p image t (make-size p image t e) cs))
+
+-- ---- power-on starts from port, thresholds, store and its counts alone
+abbrev startFrom : Fixed → List ℕ → Differing → Module
+startFrom f s d = started true noAlarms (withBytes s (zeros 256) d noJob (creation.fresh (f .port) s (f .thresholds)))
 
 clean-cut : (s : List ℕ) (w : Work) → tornStore s w Clean ≡ s
 clean-cut s work.Refused = refl
@@ -79,12 +93,18 @@ clean-cut s work.Nothing = refl
 clean-cut s (work.Load due) = refl
 clean-cut s (work.Burn due) = refl
 
-power-cycle : (m : Module) → run m (powerCycle m) ≡ startFrom (fixedOf m) (m .store)
+clean-counts : (d : Differing) (s c : List ℕ) (w : Work) → differingCut d s c w Clean ≡ d
+clean-counts d s c work.Refused = refl
+clean-counts d s c work.Nothing = refl
+clean-counts d s c (work.Load due) = refl
+clean-counts d s c (work.Burn due) = refl
+
+power-cycle : (m : Module) → run m (powerCycle m) ≡ startFrom (fixedOf m) (m .store) (m .differing)
 unfolding run step powerOn powerCut
 power-cycle m = go (m .powered) refl
   where
-    go : (b : Bool) → m .powered ≡ b → run m (powerCycle m) ≡ startFrom (fixedOf m) (m .store)
-    go true e = rw e (ap (startFrom (fixedOf m)) (clean-cut (m .store) (workOf true (m .job))))
+    go : (b : Bool) → m .powered ≡ b → run m (powerCycle m) ≡ startFrom (fixedOf m) (m .store) (m .differing)
+    go true e = let w = workOf true (m .job) in rw e (ap₂ (startFrom (fixedOf m)) (clean-cut (m .store) w) (clean-counts (m .differing) (m .store) (m .copy) w))
     go false e = rw e
 
 run-append : (m : Module) (cs ds : List Call) → run m (cs ++ ds) ≡ run (run m cs) ds
@@ -114,24 +134,33 @@ module _ (p : ℕ) (image t : List ℕ) (cs : List Call) where
   store-is : run a cs .store ≡ applied log image
   store-is = run-store a no-job-sound cs ∙ ap (λ (r : Reference). applied (burnLog p r cs) image) (initial-is p image t)
 
-  same-start : run a (cs ++ powerCycle (run a cs)) ≡ run b (PowerOn ∷ [])
-  same-start = run-append a cs (powerCycle (run a cs)) ∙ power-cycle (run a cs) ∙ ap₂ startFrom (run-fixed a no-job-sound cs) store-is
+  -- the counts of a's store were kept, those of b's counted at its making
+  same-start : length image ≡ 256 → run a (cs ++ powerCycle (run a cs)) ≡ run b (PowerOn ∷ [])
+  unfolding run step powerOn
+  same-start size =
+      let m = run a cs in
+      run-append a cs (powerCycle m)
+      ∙ power-cycle m
+      ∙ ap (startFrom (fixedOf m) (m .store)) (run-counted p image t size cs .counts)
+      ∙ ap₂ (λ (f : Fixed) (s : List ℕ). startFrom f s (fullCount s (zeros 256))) (run-fixed a no-job-sound cs) store-is
 
   b-made : makeRefusal p image t ≡ 0 → makeRefusal p (applied log image) t ≡ 0
   b-made e = refusal-front p image (applied log image) t (applied-length log image) (applied-front log image customer-log) ∙ e
 
   two-runs : makeRefusal p image t ≡ 0 → TwoRuns p image t a b cs
   two-runs e =
+      let size = make-size p image t e in
+      let same = same-start size in
       record {
         store = store-is;
-        size = ap length store-is ∙ applied-length log image ∙ make-size p image t e;
+        size = ap length store-is ∙ applied-length log image ∙ size;
         customer = λ i f. ap (λ (s : List ℕ). getD s i 0) store-is ∙ applied-elsewhere log image customer-log i f;
         made = make-accepted p (applied log image) t (b-made e);
-        same = same-start;
-        answered = λ later. ap (λ (m : Module). answers m later) same-start;
-        seen-alike = λ later. ap (λ (m : Module). along seen m later) same-start;
-        a-line = λ later. lines-are p image t (cs ++ (powerCycle (run a cs) ++ later));
-        b-line = λ later. lines-are p (applied log image) t (PowerOn ∷ later);
+        same = same;
+        answered = λ later. ap (λ (m : Module). answers m later) same;
+        seen-alike = λ later. ap (λ (m : Module). along seen m later) same;
+        a-line = λ later. lines-are p image t size (cs ++ (powerCycle (run a cs) ++ later));
+        b-line = λ later. lines-are p (applied log image) t (applied-length log image ∙ size) (PowerOn ∷ later);
       }
 
 pub demand3 : Demand3

@@ -1,6 +1,6 @@
 -- What the model answers and shows: making, every read, every call, what can be seen, settling and the readout, from the
--- reference model, the thresholds and the history. With Reference, BurnLog and History it tells document 01 a second time:
--- of the code it takes the types of the calls and the form of an answer.
+-- reference model, the thresholds and the history. With Reference, BurnLog and History it tells document 01, and what
+-- document 02 changes, a second time: of the code it takes the types of the calls and the form of an answer.
 -- Assumes nothing.
 use Prim.Native.Nat.{ℕ, zero, suc, _+_, _-_, _*_, _/_, _%_, _^_, min}
 use mathlib.Core.Bool.{Bool, not, _||_, _&&_}
@@ -180,12 +180,26 @@ answersByModel m (c ∷ cs) =
     stepSaid (m .port) (m .reference) (readAt m (remembered (m .history)) (m .reference .address)) c
     ∷ answersByModel (stepModel m c) cs
 
--- ---- what can be read from the record at any time
--- alarm line, counter, the stored byte at an offset
+-- ---- how much is unsaved (document 02, P3)
+-- how many of n bytes, from an offset on, differ between copy and store
+abbrev pub differing : (copy store : List ℕ) → (offset n : ℕ) → ℕ
+differing c s o zero = 0
+differing c s o (suc n) = (if eqb (getD s o 0) (getD c o 0) then 0 else 1) + differing c s (o + 1) n
+
+-- the full count, of the 48 customer bytes; 7 when off
+unfoldable pub fullCount : (copy store : List ℕ) → ℕ
+fullCount c s = differing c s 119 48
+
+abbrev pub unsavedSaid : (powered : Bool) → (copy store : List ℕ) → Said
+unsavedSaid powered c s = if powered then says 1 (fullCount c s ∷ []) else refused 7
+
+-- ---- what can be seen of the record
+-- alarm line, counter, the stored byte at an offset; how much is unsaved
 pub record Seen : Type 0 where
   pub line : Bool
   pub counter : ℕ
   pub stored : (offset : ℕ) → ℕ
+  pub unsaved : Said
 
 -- the counter counts data answers and stops at 65,535
 abbrev pub seenByModel : Model → Seen
@@ -194,6 +208,7 @@ seenByModel m =
       line = lineByHistory m;
       counter = min (remembered (m .history) .answered) 65535;
       stored = λ offset. getD (m .reference .store) offset 0;
+      unsaved = unsavedSaid (m .reference .powered) (m .reference .copy) (m .reference .store);
     }
 
 -- a view of the model, at the start and after each call

@@ -9,7 +9,7 @@ use lib.IntN.{ℤ}
 use lib.ListN.{length, getD, set, replicate}
 use Rattle.store.specs.declared.Cut.the-variants.{Clean}
 use Rattle.dom.specs.Readout.{tenthsOf}
-use Rattle.answers.specs.Answers.{Said, saidPlain, saidFrame, saidTick, saidSettle}
+use Rattle.answers.specs.Answers.{Said, saidPlain, saidFrame, saidTick, saidSettle, saidUnsaved}
 use Rattle.answers.specs.declared.Refusal.{Refusal}
 use Rattle.answers.specs.declared.Refusal.the-variants.{Port, ImageLength, ThresholdsLength, Checksum, ThresholdOrder, Temperature, PoweredOff, PoweredOn}
 use Rattle.answers.specs.declared.Answer.{Answer}
@@ -24,10 +24,13 @@ use Rattle.answers.specs.declared.TickAnswer.the-variants as to-tick
 use Rattle.answers.specs.declared.SettleAnswer.{SettleAnswer}
 use Rattle.answers.specs.declared.SettleAnswer.the-variants.{Ticks}
 use Rattle.answers.specs.declared.SettleAnswer.the-variants as to-settle
+use Rattle.answers.specs.declared.UnsavedAnswer.{UnsavedAnswer}
+use Rattle.answers.specs.declared.UnsavedAnswer.the-variants.{Bytes}
+use Rattle.answers.specs.declared.UnsavedAnswer.the-variants as to-unsaved
 use Rattle.xenpak.specs.Calls.{powerOn, resetPin, tick}
 use Rattle.xenpak.specs.Frame.{frame}
 use Rattle.xenpak.specs.declared.Module.{Module}
-use Rattle.reads.specs.Reads.{lineOf, counterOf, storedAt}
+use Rattle.reads.specs.Reads.{lineOf, counterOf, storedAt, unsavedOf}
 use Rattle.calls.specs.Calls.{said, step, run}
 use Rattle.calls.specs.declared.CallAnswer.{CallAnswer}
 use Rattle.calls.specs.declared.CallAnswer.the-variants as answer
@@ -38,7 +41,7 @@ use Rattle.creation.specs.Creation.{make}
 use Rattle.guarantees.specs.Reference.{initial, customerOffset}
 use Rattle.guarantees.specs.BurnLog.{burnLog, applied}
 use Rattle.guarantees.specs.History.{Model, fresh, runModel, lineByHistory}
-use Rattle.guarantees.specs.Behaviour.{makeRefusal, makeSaid, answersByModel, Seen, seenByModel, alongModel, settleCount, settleSaid, tenths}
+use Rattle.guarantees.specs.Behaviour.{makeRefusal, makeSaid, answersByModel, unsavedSaid, Seen, seenByModel, alongModel, settleCount, settleSaid, tenths}
 
 -- ---- what can be seen of a run
 -- the answer to each call
@@ -46,9 +49,9 @@ unfoldable pub answers : Module → List Call → List Said
 answers m [] = []
 answers m (c ∷ cs) = said (step m c .answer) ∷ answers (step m c .next) cs
 
--- what can be read from the record at any time
+-- what can be read from the record
 abbrev pub seen : Module → Seen
-seen m = record { line = lineOf m; counter = counterOf m; stored = storedAt m }
+seen m = record { line = lineOf m; counter = counterOf m; stored = storedAt m; unsaved = saidUnsaved (unsavedOf m) }
 
 -- a view of the record, at the start and after each call
 unfoldable pub along : {A : Type 0} → (Module → A) → Module → List Call → List A
@@ -102,7 +105,8 @@ pub record TwoRuns (port : ℕ) (image thresholds : List ℕ) (a b : Module) (ca
   pub made : make port (burned port image calls) thresholds .answer ≡ Accepted
   -- a clean cut of a if it is powered, then power-on of both: the records are equal
   pub same : cycled a calls ≡ run b (PowerOn ∷ [])
-  -- then every later list gets equal answers, and at its start and after each call equal line, counter and store
+  -- then every later list gets equal answers, and at its start and after each call equal line, counter, store and count of
+  -- unsaved bytes
   pub answered : (later : List Call) → answers (cycled a calls) later ≡ answers (run b (PowerOn ∷ [])) later
   pub seen-alike : (later : List Call) → along seen (cycled a calls) later ≡ along seen (run b (PowerOn ∷ [])) later
   -- in either run, after making and after every call, the line is the history rule's
@@ -117,6 +121,15 @@ pub record TwoRuns (port : ℕ) (image thresholds : List ℕ) (a b : Module) (ca
 abbrev pub Demand3 : Type 0
 Demand3 = (port : ℕ) (image thresholds : List ℕ) (calls : List Call) → makeRefusal port image thresholds ≡ 0
     → TwoRuns port image thresholds (make port image thresholds .next) (make port (burned port image calls) thresholds .next) calls
+
+-- ---- document 02, P3: after every accepted making and every list of calls, the quick answer to how much is unsaved is the
+-- full count of the record's copy and store, and 7 when it is off; by the model's copy and store it is that of `ByModel`
+abbrev pub CountsUnsaved : Module → Type 0
+CountsUnsaved m = saidUnsaved (unsavedOf m) ≡ unsavedSaid (m .powered) (m .copy) (m .store)
+
+abbrev pub UnsavedCount : Type 0
+UnsavedCount = (port : ℕ) (image thresholds : List ℕ) (calls : List Call) → makeRefusal port image thresholds ≡ 0
+    → CountsUnsaved (run (make port image thresholds .next) calls)
 
 -- ---- beyond them
 -- demand 1: a refused call leaves the record, whatever it holds; so does a frame that is silent or dropped
@@ -187,12 +200,16 @@ tickTold = told to-tick.Refused (λ value. Nothing ∷ Loaded (value 0) (value 1
 abbrev pub settleTold : Said → SettleAnswer
 settleTold = told to-settle.Refused (λ value. Ticks (value 0) ∷ [])
 
+abbrev pub unsavedTold : Said → UnsavedAnswer
+unsavedTold = told to-unsaved.Refused (λ value. Bytes (value 0) ∷ [])
+
 -- so no two answers of a kind are said alike
 pub record Numbered : Type 0 where
   pub plain : (a : Answer) → plainTold (saidPlain a) ≡ a
   pub frames : (a : FrameAnswer) → frameTold (saidFrame a) ≡ a
   pub ticks : (a : TickAnswer) → tickTold (saidTick a) ≡ a
   pub settling : (a : SettleAnswer) → settleTold (saidSettle a) ≡ a
+  pub unsaved : (a : UnsavedAnswer) → unsavedTold (saidUnsaved a) ≡ a
 
 -- ---- the readout of every temperature code
 abbrev pub Readout : Type 0

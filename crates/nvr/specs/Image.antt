@@ -1,7 +1,7 @@
 -- The 256 bytes of an image: their regions, and the checksum of the basic region. Document 01, "Registers", the copy.
 -- Assumes nothing.
 use Prim.Native.Nat.{ℕ, _+_, _%_}
-use mathlib.Core.Bool.{Bool, cond}
+use mathlib.Core.Bool.{Bool, true, false, cond}
 use mathlib.Core.List.{List, [], _∷_}
 use lib.Dec.{eqb, leb}
 use lib.ListN.{take, getD}
@@ -11,6 +11,12 @@ use Rattle.nvr.specs.declared.image.Region.the-variants.{Basic, Checksum
 -- offsets 0 to 117 basic, 118 checksum, 119 to 166 customer, 167 to 255 vendor
 abbrev pub regionOf : ℕ → Region
 regionOf offset = cond (leb offset 117) Basic (cond (leb offset 118) Checksum (cond (leb offset 166) Customer Vendor))
+
+abbrev pub isCustomer : Region → Bool
+isCustomer Basic = false
+isCustomer Checksum = false
+isCustomer Customer = true
+isCustomer Vendor = false
 
 -- the first byte plus the sum of the rest
 abbrev pub sum : List ℕ → ℕ

@@ -2,7 +2,7 @@
 ghost use mathlib.Core.Path.{_≡_};
 ghost use Prim.Native.Nat.{_+_, _%_};
 ghost use lib.ListN.{take};
-ghost use Rattle.nvr.specs.Image.{regionOf, sum, checksumRight};
+ghost use Rattle.nvr.specs.Image.{regionOf, isCustomer, sum, checksumRight};
 
 // The regions of an image, by offset.
 pub enum Region {
@@ -21,6 +21,17 @@ impl Region {
             118 => Region::Checksum,
             119..=166 => Region::Customer,
             _ => Region::Vendor,
+        }
+    }
+
+    pub fn is_customer(self) -> bool
+        ensures { λ r. ⌜ r ≡ isCustomer self ⌝ }
+    {
+        match self {
+            Region::Basic => false,
+            Region::Checksum => false,
+            Region::Customer => true,
+            Region::Vendor => false,
         }
     }
 }

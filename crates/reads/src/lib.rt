@@ -1,6 +1,7 @@
-// What can be read from the record at any time, without refusal.
+// What can be read from the record, at any time and without refusal; and how much is unsaved, which needs power.
 ghost use mathlib.Core.Path.{_≡_};
-ghost use Rattle.reads.specs.Reads.{lineOf, counterOf, storedAt};
+ghost use Rattle.reads.specs.Reads.{lineOf, counterOf, storedAt, unsavedOf};
+use answers::UnsavedAnswer;
 use lasi::line;
 use store::byte_at;
 use xenpak::Module;
@@ -25,4 +26,11 @@ pub fn stored(m: Module, offset: u8) -> u8
 {
     let store = m.store;
     byte_at(&store, offset)
+}
+
+// How many customer bytes differ between copy and store. Refused with 7 when off.
+pub fn unsaved(m: Module) -> UnsavedAnswer
+    ensures { λ r. ⌜ r ≡ unsavedOf m ⌝ }
+{
+    UnsavedAnswer::of(m.powered, m.differing.copy)
 }

@@ -1,18 +1,29 @@
--- The register at an address that lies between two numbers: `register-between` decides each row's test by them.
+-- A number that lies between two others, as a test and as facts: `range-true`, `in-range`.
+-- The register at such an address: `register-between` decides each row's test by them.
 -- And no address stands in two rows: `rows-ascend`.
 -- Assumes nothing.
 use Prim.Native.Nat.{ℕ, suc, _≤_}
 use native.Mathlib.Omega.{arith}
 use mathlib.Core.Path.{_≡_, refl, sym, ap, _∙_}
-use mathlib.Core.Bool.{Bool, true, false, cond, _&&_, _||_, and-false}
+use mathlib.Core.Bool.{Bool, true, false, cond, _&&_, _||_, and-false, true≢false}
 use mathlib.Core.List.{List, [], _∷_}
 use mathlib.Core.Logic.{⊎-elim}
 use lib.Dec.{T, leb, ltb, leb→le, ltb→lt}
-use borrow.Author.Tests.{le-leb, lt-leb}
+use borrow.Author.Tests.{leb-true, le-leb, lt-leb}
 use mir.Facts.{and-yes, or-yes}
 use Rattle.registers.specs.Map.{Row, within, lookup, rows, registerAt}
 use Rattle.registers.specs.declared.Register.{Register}
 use Rattle.registers.specs.declared.Register.the-variants.{Unlisted}
+
+pub range-true : (first last a : ℕ) → (leb first a && leb a last) ≡ true → (first ≤ a) × (a ≤ last)
+range-true first last a t = go (leb first a) refl t
+  where
+    go : (b : Bool) → leb first a ≡ b → (b && leb a last) ≡ true → (first ≤ a) × (a ≤ last)
+    go true e t = (leb-true first a e, leb-true a last t)
+    go false e t = absurd (true≢false (sym t))
+
+pub in-range : (first last a : ℕ) → first ≤ a → a ≤ last → (leb first a && leb a last) ≡ true
+in-range first last a h k = rw (le-leb first a h, le-leb a last k)
 
 -- the row has no address from lo to hi; it has each
 abbrev pub apart : ℕ → ℕ → Row → Bool
@@ -39,7 +50,7 @@ module _ (lo hi a : ℕ) (above : lo ≤ a) (below : a ≤ hi) where
   inside : (r : Row) → T (covers lo hi r) → within r a ≡ true
   inside r t =
       let p = and-yes (leb (r .first) lo) (leb hi (r .last)) t in
-      rw (le-leb (r .first) a (omega (arith, leb→le (r .first) lo (p .0))), le-leb a (r .last) (omega (arith, leb→le hi (r .last) (p .1))))
+      in-range (r .first) (r .last) a (omega (arith, leb→le (r .first) lo (p .0))) (omega (arith, leb→le hi (r .last) (p .1)))
 
   choice : (w p q : Bool) (x y : Register) → (T p → w ≡ false) → (T q → w ≡ true) → cond w x y ≡ cond p y (cond q x (cond w x y))
   choice w true q x y f g = rw (f tt)

@@ -5,17 +5,22 @@ use native.Mathlib.Nat.{min-eq-left, min-eq-right}
 use native.Mathlib.Numerals.{add-one}
 use native.Mathlib.Omega.{arith}
 use mathlib.Core.Bool.{Bool, true, false}
+use mathlib.Core.List.{List}
 use mathlib.Core.Path.{_≡_, refl, sym, ap, _∙_}
 use lib.Dec.{eqb, ltb}
 use borrow.Author.Tests.{ltb-true, ltb-false}
 use Rattle.jobs.specs.Job.{none, burn, isBusy}
 use Rattle.work.specs.Work.{workOf, afterWork}
+use Rattle.work.specs.declared.Work.{Work}
+use Rattle.store.specs.Bytes.{Moved}
+use Rattle.differing.specs.Differing.{differingTicked}
 use Rattle.jobs.specs.declared.Job.{Job}
-use Rattle.xenpak.specs.Calls.{tick}
+use Rattle.differing.specs.declared.Differing.{Differing}
+use Rattle.xenpak.specs.Calls.{withBytes, tick}
 use Rattle.settling.specs.Settling.{ticks, due, settled}
 use Rattle.answers.specs.declared.SettleAnswer.the-variants.{Ticks}
+use Rattle.answers.specs.declared.TickAnswer.{TickAnswer}
 use Rattle.xenpak.specs.declared.Module.{Module}
-use Rattle.xenpak.specs.declared.TickOutcome.{TickOutcome}
 use Rattle.settling.specs.declared.SettleOutcome.{SettleOutcome}
 
 -- after a byte one tick fewer is due
@@ -55,16 +60,20 @@ pub start : (budget : ℕ) (m : Module) → m .powered ≡ true → Settling bud
 unfolding ticks
 start budget m on = record { within = omega arith; after = refl; powered = on; left = omega arith }
 
-pub again : {budget done : ℕ} {m₀ m : Module} {t : TickOutcome} → Settling budget m₀ m done → done < budget → isBusy (m .job) ≡ true → t ≡ tick m → Settling budget m₀ (t .next) (done + 1)
+-- a tick, made on the parts
+pub ticked : (m : Module) (j : Job) (d : Differing) {j′ : Job} {d′ : Differing} {s s′ c c′ : List ℕ} {w : Work} {a : TickAnswer} → m .powered ≡ true
+    → w ≡ workOf true j → j′ ≡ afterWork j w → d′ ≡ differingTicked d s c w → Moved s c w a s′ c′ → withBytes s′ c′ d′ j′ m ≡ tick (withBytes s c d j m) .next
+unfolding tick
+ticked m j d on p q r moved = rw (q, r, moved .store, moved .copy, p, on)
+
+pub again : {budget done : ℕ} {m₀ m n : Module} → Settling budget m₀ m done → done < budget → isBusy (m .job) ≡ true → n ≡ tick m .next → Settling budget m₀ n (done + 1)
 unfolding ticks
-again {budget} {done} {m₀} {m} {t} s h e p =
+again {budget} {done} {m₀} {m} {n} s h e p =
     record {
       within = omega arith;
-      after =
-          ap (λ (x : TickOutcome). x .next) p
-          ∙ (ap (λ (x : Module). tick x .next) (s .after) ∙ ap (λ (n : ℕ). ticks n m₀) (sym (add-one done)));
-      powered = ap (λ (x : TickOutcome). x .next .powered) p ∙ (tick-powered m ∙ s .powered);
-      left = omega (arith, ap (λ (x : TickOutcome). due (x .next .job)) p, tick-done m (s .powered) e, s .left);
+      after = p ∙ (ap (λ (x : Module). tick x .next) (s .after) ∙ ap (λ (k : ℕ). ticks k m₀) (sym (add-one done)));
+      powered = ap (λ (x : Module). x .powered) p ∙ (tick-powered m ∙ s .powered);
+      left = omega (arith, ap (λ (x : Module). due (x .job)) p, tick-done m (s .powered) e, s .left);
     }
 
 counted : (budget done : ℕ) (m₀ m : Module) → Settling budget m₀ m done → min budget (due (m₀ .job)) ≡ done → _≡_ {A = SettleOutcome} (record { next = m; answer = Ticks done }) (settled m₀ budget)

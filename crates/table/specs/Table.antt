@@ -17,7 +17,7 @@ use Rattle.xenpak.specs.declared.Module.{Module}
 use Rattle.guarantees.specs.Reference.{initial}
 use Rattle.guarantees.specs.BurnLog.{Entry, entry, burnLog}
 use Rattle.guarantees.specs.History.{Model, fresh, runModel}
-use Rattle.guarantees.specs.Behaviour.{says, makeSaid, answersByModel, Seen, seenByModel, alongModel, tenths}
+use Rattle.guarantees.specs.Behaviour.{says, refused, makeSaid, answersByModel, Seen, seenByModel, alongModel, tenths}
 use Rattle.guarantees.specs.Guarantees.{answers, seen, along}
 
 -- ---- the module: at port 0
@@ -83,42 +83,47 @@ sample t b = accepted (call.Sample (record { temperature = t; bias = b; transmit
 abbrev pub linkUp : List Step
 linkUp = accepted (call.Lines (record { receive = 0; transmit = 0; signal = true; block = true; lanes = true }))
 
+-- so many customer bytes are unsaved
+abbrev pub bytes : ℕ → Said
+bytes n = says 1 (n ∷ [])
+
 -- ---- the table
 pub data Row : Type 0 where
-  -- steps after making and power-on; then address register, counter and store, and what was burned
-  plays : List Step → (address counter : ℕ) → (store : List ℕ) → List Entry → Row
+  -- steps after making and power-on; then address register, counter, how much is unsaved (document 02, P3), store, and what
+  -- was burned
+  plays : List Step → (address counter : ℕ) → (unsaved : Said) → (store : List ℕ) → List Entry → Row
   -- the readout of a code
   reads : (code tenths : ℤ) → Row
 
 unfoldable pub table : List Row
 table =
     -- 00068000, 30040000 after 0 or 255 ticks
-    plays (address 0x8000 ++ read 0x000b) 0x8000 1 image []
-    ∷ plays (loads 255 ++ address 0x8000 ++ read 0x000b) 0x8000 1 image []
+    plays (address 0x8000 ++ read 0x000b) 0x8000 1 (bytes 48) image []
+    ∷ plays (loads 255 ++ address 0x8000 ++ read 0x000b) 0x8000 1 (bytes 0) image []
     -- two reads after 256
-    ∷ plays (loads 256 ++ address 0x8000 ++ read 0x0007 ++ read 0x0003) 0x8000 2 image []
+    ∷ plays (loads 256 ++ address 0x8000 ++ read 0x0007 ++ read 0x0003) 0x8000 2 (bytes 0) image []
     -- 0000 before, after load
-    ∷ plays (address 0x0000 ++ read 0xa040 ++ loads 256 ++ read 0x2040) 0x0000 2 image []
+    ∷ plays (address 0x0000 ++ read 0xa040 ++ loads 256 ++ read 0x2040) 0x0000 2 (bytes 0) image []
     -- loaded, address 8000: 10067622, read twice
-    ∷ plays (loads 256 ++ address 0x8000 ++ write 0x7622 ++ read 0x762e ++ read 0x7622) 0x8000 2 image []
+    ∷ plays (loads 256 ++ address 0x8000 ++ write 0x7622 ++ read 0x762e ++ read 0x7622) 0x8000 2 (bytes 0) image []
     -- loaded; 807E gets 01AA
-    ∷ plays (loads 256 ++ address 0x807e ++ write 0x01aa ++ read 0x00aa) 0x807e 1 image []
+    ∷ plays (loads 256 ++ address 0x807e ++ write 0x01aa ++ read 0x00aa) 0x807e 1 (bytes 1) image []
     -- then 8000 gets 0023, 2 ticks, cut struck 55
     ∷ plays
     (loads 256 ++ address 0x807e ++ write 0x01aa ++ address 0x8000 ++ write 0x0023 ++ burns 119 0xaa ++ burns 120 0x02 ++ cutTorn 0x55)
-    0x8000 0 (set (set image 119 0xaa) 121 0x55) (entry 119 0xaa ++ entry 120 0x02 ++ entry 121 0x55)
+    0x8000 0 (refused 7) (set (set image 119 0xaa) 121 0x55) (entry 119 0xaa ++ entry 120 0x02 ++ entry 121 0x55)
     -- temperature high alarm 4600: samples 4600, 4601, a read after each
-    ∷ plays (address 0xa070 ++ sample (pos 0x4600) 0 ++ read 0x0000 ++ sample (pos 0x4601) 0 ++ read 0x0080) 0xa070 2 image []
+    ∷ plays (address 0xa070 ++ sample (pos 0x4600) 0 ++ read 0x0000 ++ sample (pos 0x4601) 0 ++ read 0x0080) 0xa070 2 (bytes 48) image []
     -- temperature low alarm FB00: FAFF, fine sample, read twice
-    ∷ plays (address 0xa070 ++ sample (negsuc 0x500) 0 ++ sample (pos 0) 0 ++ read 0x0040 ++ read 0x0000) 0xa070 2 image []
+    ∷ plays (address 0xa070 ++ sample (negsuc 0x500) 0 ++ sample (pos 0) 0 ++ read 0x0040 ++ read 0x0000) 0xa070 2 (bytes 48) image []
     -- bias 61A8, read A064, bias 0, A065 twice
     ∷ plays
     (sample (pos 0) 0x61a8 ++ address 0xa064 ++ read 0x61 ++ sample (pos 0) 0 ++ address 0xa065 ++ read 0xa8 ++ read 0x00) 0xa065
-    3 image []
+    3 (bytes 48) image []
     -- FFFF, 20040000
-    ∷ plays (address 0xffff ++ readIncrement 0x0000) 0xffff 1 image []
+    ∷ plays (address 0xffff ++ readIncrement 0x0000) 0xffff 1 (bytes 48) image []
     -- 9002 is 1, link up, 9005 twice
-    ∷ plays (address 0x9002 ++ write 0x0001 ++ asserted (linkUp ++ address 0x9005) ++ read 0x0001 ++ read 0x0000) 0x9005 2 image []
+    ∷ plays (address 0x9002 ++ write 0x0001 ++ asserted (linkUp ++ address 0x9005) ++ read 0x0001 ++ read 0x0000) 0x9005 2 (bytes 48) image []
     -- readout of 192, −192 (document 02, P2)
     ∷ reads (pos 192) (pos 8)
     ∷ reads (negsuc 191) (negsuc 7)
@@ -143,7 +148,7 @@ answersOf (s ∷ ss) = s .gets ++ answersOf ss
 
 -- the lines, and what is seen at the end, from what is seen at the start and after each call
 abbrev pub nothingSeen : Seen
-nothingSeen = record { line = false; counter = 0; stored = λ offset. 0 }
+nothingSeen = record { line = false; counter = 0; stored = λ offset. 0; unsaved = bytes 0 }
 
 abbrev pub linesAfter : List Step → List Seen → List Bool
 linesAfter [] sights = []
@@ -156,9 +161,9 @@ played steps said sights a =
 
 -- as the row says
 unfoldable pub expected : Row → Result
-expected (plays steps a n store log) =
+expected (plays steps a n unsaved store log) =
     shows (says 1 [] ∷ answersOf (fromPowerOn steps)) (map (λ (s : Step). s .line) (fromPowerOn steps)) a
-    (record { line = false; counter = n; stored = λ offset. getD store offset 0 })
+    (record { line = false; counter = n; stored = λ offset. getD store offset 0; unsaved = unsaved })
 expected (reads code t) = tells t
 
 -- of the module
@@ -166,7 +171,7 @@ abbrev pub made : Module
 made = make 0 image thresholds .next
 
 unfoldable pub result : Row → Result
-result (plays steps a n store log) =
+result (plays steps a n unsaved store log) =
     let all : List Step = fromPowerOn steps in
     played all (saidPlain (make 0 image thresholds .answer) ∷ answers made (callsOf all)) (along seen made (callsOf all))
     (run made (callsOf all) .bus .address)
@@ -177,7 +182,7 @@ abbrev pub modelled : Model
 modelled = fresh 0 image thresholds
 
 unfoldable pub resultByModel : Row → Result
-resultByModel (plays steps a n store log) =
+resultByModel (plays steps a n unsaved store log) =
     let all : List Step = fromPowerOn steps in
     played all (makeSaid 0 image thresholds ∷ answersByModel modelled (callsOf all)) (alongModel seenByModel modelled (callsOf all))
     (runModel modelled (callsOf all) .reference .address)
@@ -185,11 +190,11 @@ resultByModel (reads code t) = tells (tenths code)
 
 -- the burn log
 unfoldable pub expectedLog : Row → List Entry
-expectedLog (plays steps a n store log) = log
+expectedLog (plays steps a n unsaved store log) = log
 expectedLog (reads code t) = []
 
 unfoldable pub logOf : Row → List Entry
-logOf (plays steps a n store log) = burnLog 0 (initial image) (callsOf (fromPowerOn steps))
+logOf (plays steps a n unsaved store log) = burnLog 0 (initial image) (callsOf (fromPowerOn steps))
 logOf (reads code t) = []
 
 pub record Cases : Type 0 where

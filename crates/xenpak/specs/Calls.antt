@@ -4,10 +4,13 @@ use Prim.Native.Nat.{ℕ}
 use mathlib.Core.Bool.{Bool, true, false}
 use mathlib.Core.List.{List}
 use Rattle.jobs.specs.Job.{firstLoad, firstCommand}
+use Rattle.jobs.specs.declared.Job.{Job}
 use Rattle.work.specs.Work.{workOf, afterWork}
 use Rattle.work.specs.declared.Work.{Work}
 use Rattle.store.specs.Bytes.{tickAnswer, loadedCopy, burnedStore, tornStore, zeros}
 use Rattle.store.specs.declared.Cut.{Cut}
+use Rattle.differing.specs.Differing.{differingStarted, differingTicked, differingCut}
+use Rattle.differing.specs.declared.Differing.{Differing}
 use Rattle.bus.specs.Bus.{noBus}
 use Rattle.dom.specs.Codes.{acceptable}
 use Rattle.thresholds.specs.Thresholds.{thresholdsOf}
@@ -46,6 +49,7 @@ started powered alarms m =
       store = m .store;
       job = firstLoad;
       copy = zeros 256;
+      differing = differingStarted (m .differing);
       powered = powered;
       port = m .port;
       thresholds = m .thresholds;
@@ -70,6 +74,7 @@ afterCut m cut =
       store = tornStore (m .store) (workOf true (m .job)) cut;
       job = m .job;
       copy = m .copy;
+      differing = differingCut (m .differing) (m .store) (m .copy) (workOf true (m .job)) cut;
       powered = false;
       port = m .port;
       thresholds = m .thresholds;
@@ -83,22 +88,29 @@ unfoldable pub powerCut : Module → Cut → Outcome
 powerCut m cut = taken (callAnswer (m .powered) true) m (afterCut m cut)
 
 -- ---- tick
+-- a module with this store and copy, their counts and this job
+abbrev pub withBytes : List ℕ → List ℕ → Differing → Job → Module → Module
+withBytes store copy differing job m =
+    record {
+      store = store;
+      job = job;
+      copy = copy;
+      differing = differing;
+      powered = m .powered;
+      port = m .port;
+      thresholds = m .thresholds;
+      command = m .command;
+      bus = m .bus;
+      alarms = m .alarms;
+      monitor = m .monitor;
+    }
+
 abbrev pub tickBy : Module → Work → TickOutcome
 tickBy m w =
     record {
       next =
-          record {
-            store = burnedStore (m .store) (m .copy) w;
-            job = afterWork (m .job) w;
-            copy = loadedCopy (m .store) (m .copy) w;
-            powered = m .powered;
-            port = m .port;
-            thresholds = m .thresholds;
-            command = m .command;
-            bus = m .bus;
-            alarms = m .alarms;
-            monitor = m .monitor;
-          };
+          withBytes (burnedStore (m .store) (m .copy) w) (loadedCopy (m .store) (m .copy) w)
+          (differingTicked (m .differing) (m .store) (m .copy) w) (afterWork (m .job) w) m;
       answer = tickAnswer (m .store) (m .copy) w;
     }
 
@@ -112,6 +124,7 @@ withAlarms alarms monitor m =
       store = m .store;
       job = m .job;
       copy = m .copy;
+      differing = m .differing;
       powered = m .powered;
       port = m .port;
       thresholds = m .thresholds;

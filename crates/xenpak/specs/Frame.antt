@@ -10,6 +10,7 @@ use Rattle.monitor.specs.Monitor.{monitorAfter}
 use Rattle.alarms.specs.Alarms.{alarmsAfter}
 use Rattle.answers.specs.Answers.{frameAnswer}
 use Rattle.values.specs.Values.{registerOf, registerByte, registerValue}
+use Rattle.differing.specs.Differing.{differingAfter}
 use Rattle.bus.specs.Bus.{busAfter}
 use Rattle.xenpak.specs.declared.Module.{Module}
 use Rattle.xenpak.specs.declared.FrameOutcome.{FrameOutcome}
@@ -25,6 +26,7 @@ moduleAfter m a =
       store = m .store;
       job = jobAfter (m .job) a;
       copy = writtenCopy (m .copy) a;
+      differing = differingAfter (m .differing) (m .store) (m .copy) a;
       powered = m .powered;
       port = m .port;
       thresholds = m .thresholds;

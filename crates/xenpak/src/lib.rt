@@ -10,6 +10,7 @@ use answers::Answer;
 use answers::FrameAnswer;
 use answers::TickAnswer;
 use bus::Bus;
+use differing::Differing;
 use dom::Sample;
 use flags::flags_of;
 use jobs::FIRST_COMMAND;
@@ -31,6 +32,7 @@ pub struct Module {
     pub copy: [u8; 256],
     pub job: Job,
     pub store: [u8; 256],
+    pub differing: Differing,
     pub powered: bool,
     pub port: u8,
     pub thresholds: [u8; 40],
@@ -75,8 +77,8 @@ impl Module {
         }
     }
 
-    // What power-on and reset share: a first load starts, with all at zero but port, store, thresholds, this power and
-    // these alarms.
+    // What power-on and reset share: a first load starts, with all at zero but port, store, its counts, thresholds, this
+    // power and these alarms.
     fn started(self, powered: bool, alarms: Alarms) -> Module
         ensures { λ r. ⌜ r ≡ started powered alarms self ⌝ }
     {
@@ -86,6 +88,7 @@ impl Module {
             store: store,
             job: Job::FIRST_LOAD,
             copy: [0; 256],
+            differing: self.differing.started(),
             powered: powered,
             port: self.port,
             thresholds: thresholds,
@@ -119,8 +122,11 @@ impl Module {
         ensures { λ r. ⌜ r ≡ powerCut self cut ⌝ }
     {
         let before = self;
+        let work = work_of(self.job, true);
+        let copy = self.copy;
         let mut store = self.store;
-        tear(&mut store, work_of(self.job, true), cut);
+        self.differing = self.differing.after_cut(&store, &copy, work, cut);
+        tear(&mut store, work, cut);
         self.store = store;
         self.powered = false;
         before.taken(Answer::to_call(before.powered, true), self)
@@ -134,6 +140,7 @@ impl Module {
         let mut store = self.store;
         let mut copy = self.copy;
         self.job = after_work(self.job, work);
+        self.differing = self.differing.after_tick(&store, &copy, work);
         let answer = move_byte(&mut store, &mut copy, work);
         self.store = store;
         self.copy = copy;
@@ -173,7 +180,9 @@ impl Module {
         self.bus = self.bus.after(action);
         self.alarms = self.alarms.after(action);
         self.monitor = self.monitor.after(action);
+        let store = self.store;
         let mut copy = self.copy;
+        self.differing = self.differing.after(&store, &copy, action);
         write_copy(&mut copy, action);
         self.copy = copy;
         self

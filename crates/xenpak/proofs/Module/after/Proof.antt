@@ -14,4 +14,7 @@ after-spec =
     (λ c κs. search needs)
     (λ c κs. search needs)
     (λ c κs. search needs)
-    (λ c. rw (c .write-copy .ensures, c .before .before .before .after4 .ensures, c .before .before .before .before .after3 .ensures, c .before .before .before .before .before .after2 .ensures, c .before .before .before .before .before .before .command-after .ensures, c .before .before .before .before .before .before .before .after .ensures)))
+    (λ c κs. search needs)
+    (λ c.
+    let far = c .before .before .before .before .before .before .before in
+    rw (c .write-copy .ensures, c .before .before .after5 .ensures, far .after4 .ensures, far .before .after3 .ensures, far .before .before .after2 .ensures, far .before .before .before .command-after .ensures, far .before .before .before .before .after .ensures)))

@@ -14,4 +14,5 @@ power-cut-spec =
     (λ c κs. search needs)
     (λ c κs. search needs)
     (λ c κs. search needs)
-    (λ c. rw (c .taken .ensures, c .before .to-call .ensures, c .before .before .tear .ensures, c .before .before .before .work-of .ensures)))
+    (λ c κs. search needs)
+    (λ c. rw (c .taken .ensures, c .before .to-call .ensures, c .before .before .tear .ensures, c .before .before .before .before .after-cut .ensures, c .before .before .before .before .before .before .before .before .before .work-of .ensures)))

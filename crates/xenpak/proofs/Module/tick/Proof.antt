@@ -13,4 +13,5 @@ tick-spec =
     (λ c κs. search needs)
     (λ c κs. search needs)
     (λ c κs. search needs)
-    (λ c. rw (c .move-byte .ensures .answer, c .move-byte .ensures .store, c .move-byte .ensures .copy, c .before .before .before .after-work .ensures, c .before .before .before .before .before .before .work-of .ensures)))
+    (λ c κs. search needs)
+    (λ c. rw (c .move-byte .ensures .answer, c .move-byte .ensures .store, c .move-byte .ensures .copy, c .before .before .before .after-tick .ensures, c .before .before .before .before .before .before .after-work .ensures, c .before .before .before .before .before .before .before .before .before .work-of .ensures)))

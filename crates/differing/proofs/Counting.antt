@@ -1,0 +1,50 @@
+-- Counting: a bool as a number, and the loop that counts the customer bytes of a store that are not zero.
+-- Assumes nothing.
+use Prim.Native.Nat.{ℕ, _+_, _≤_, _<_}
+use native.Mathlib.Numerals.{add-one}
+use native.Mathlib.Omega.{arith}
+use mathlib.Core.Bool.{Bool, true, false}
+use mathlib.Core.List.{List}
+use mathlib.Core.Path.{_≡_, refl, sym, ap, _∙_}
+use lib.ListN.{getD}
+use mir.Val.{boolByte}
+use Rattle.store.specs.Bytes.{zeros}
+use Rattle.store.proofs.Zeros.{zeros-at}
+use Rattle.differing.specs.Differing.{differing, differ, one, howMany, differences, fullCount, recount}
+
+pub record Bit (b : Bool) : Type 0 where
+  pub is : boolByte b ≡ one b
+  pub low : one b ≤ 1
+
+pub bit : (b : Bool) → Bit b
+bit true = record { is = refl; low = omega arith }
+bit false = record { is = refl; low = omega arith }
+
+-- whether customer byte i differs
+abbrev pub differAt : List ℕ → List ℕ → ℕ → Bool
+differAt a b i = differ (getD a (119 + i) 0) (getD b (119 + i) 0)
+
+-- n of the first i customer bytes are not zero
+pub record Counting (store : List ℕ) (n i : ℕ) : Type 0 where
+  pub within : i ≤ 48
+  pub few : n ≤ i
+  pub count : n ≡ howMany i (differAt store (zeros 256))
+
+pub none : (store : List ℕ) → Counting store 0 0
+none store = record { within = omega arith; few = omega arith; count = refl }
+
+pub more : {store : List ℕ} {n i r : ℕ} {b : Bool} → Counting store n i → i < 48 → b ≡ differ (getD store (119 + i) 0) 0 → r ≡ recount n false b → Counting store r (i + 1)
+more {store} {n} {i} {r} {b} k h e q =
+    let s : r ≡ n + one b = omega (arith, bit b, k .few) in
+    let d : b ≡ differAt store (zeros 256) i = e ∙ ap (differ (getD store (119 + i) 0)) (sym (zeros-at 256 (119 + i) 0 (omega arith))) in
+    record {
+      within = omega arith;
+      few = omega (arith, bit b, k .few);
+      count = s ∙ (λ j. k .count j + one (d j)) ∙ ap (λ (x : ℕ). howMany x (differAt store (zeros 256))) (sym (add-one i));
+    }
+
+pub whole : {store : List ℕ} {n i : ℕ} → Counting store n i → 48 ≤ i → differing n n ≡ fullCount store (zeros 256)
+unfolding differences
+whole {store} {n} {i} k h =
+    let e : i ≡ 48 = omega (arith, k .within) in
+    ap (λ (c : ℕ). differing c c) (k .count ∙ ap (λ (x : ℕ). howMany x (differAt store (zeros 256))) e)

@@ -1,0 +1,3 @@
+-- Laws of `differing` that belong to no one function.
+pub mod Counting
+pub mod Keeping

@@ -1,0 +1,2 @@
+-- What the contracts of `differing` cite.
+pub mod Differing
