@@ -1,4 +1,4 @@
--- The answers and outcomes of tick and frame, as a walk over a lent record wants them.
+-- The answers and outcomes of the calls on a lent record, as a walk over it wants them.
 -- Assumes nothing.
 use mathlib.Core.Path.{ap}
 use mathlib.Core.List.{[], _∷_}
@@ -11,6 +11,8 @@ use Rattle.answers.proofs.TickAnswer as Tick
 use Rattle.answers.proofs.TickAnswer.Laws as Tick′
 use Rattle.answers.proofs.FrameAnswer as Frame
 use Rattle.answers.proofs.FrameAnswer.Laws as Frame′
+use Rattle.answers.proofs.UnsavedAnswer as Unsaved
+use Rattle.answers.proofs.UnsavedAnswer.Laws as Unsaved′
 use Rattle.xenpak.proofs.TickOutcome as Ticked
 use Rattle.xenpak.proofs.TickOutcome.Laws as Ticked′
 use Rattle.xenpak.proofs.FrameOutcome as Framed
@@ -62,3 +64,6 @@ frame-outcome =
       tells = λ r v is. ap only (struct.tells Framed.the-type Framed′.the-laws r (v ∷ []) is);
       typed = λ 𝓤 H A W r v is. struct.lawful Framed.the-type Framed′.the-laws 𝓤 H A W .typed r _ is .0;
     }
+
+abbrev pub unsaved-answer : AnswerType
+unsaved-answer = answerType Unsaved.the-type Unsaved′.the-laws Unsaved′.the-plain tt

@@ -1,15 +1,18 @@
-// A module for firmware: tick and frame over a lent record, updated there, and every call for C.
+// A module for firmware: tick and frame over a lent record, updated there, how much of one is unsaved, and every call for C.
 ghost use mathlib.Core.Path.{_≡_};
 ghost use Prim.Native.Nat.{_+_, _*_};
-ghost use Rattle.answers.specs.Answers.{saidTick, saidFrame};
+ghost use Rattle.answers.specs.Answers.{saidTick, saidFrame, saidUnsaved};
 ghost use Rattle.xenpak.specs.Calls.{tick};
 ghost use Rattle.xenpak.specs.Frame.{frame};
+ghost use Rattle.reads.specs.Reads.{unsavedOf};
 ghost use Rattle.firmware.specs.Words.{answerWord};
 
 pub mod calls;
 
 use answers::FrameAnswer;
 use answers::TickAnswer;
+use answers::UnsavedAnswer;
+use reads::unsaved;
 use xenpak::Module;
 
 // A tick of a lent record.
@@ -69,6 +72,16 @@ fn frame_word(answer: FrameAnswer) -> u32
     }
 }
 
+// The count of bytes.
+fn unsaved_word(answer: UnsavedAnswer) -> u32
+    ensures { λ r. ⌜ r ≡ answerWord (saidUnsaved answer) ⌝ }
+{
+    match answer {
+        UnsavedAnswer::Bytes(count) => word_of(0, 1, count as u16),
+        UnsavedAnswer::Refused(why) => word_of(why.number(), 0, 0),
+    }
+}
+
 // A tick of a lent record, for C.
 #[no_mangle]
 pub extern "C" fn xenpak_tick(m: &mut Module) -> u32
@@ -83,4 +96,12 @@ pub extern "C" fn xenpak_frame(m: &mut Module, word: u32) -> u32
     ensures { λ r. ⌜ (r ≡ answerWord (saidFrame (frame (now (m .entry)) word .answer))) × (now (m .exit) ≡ frame (now (m .entry)) word .next) ⌝ }
 {
     frame_word(frame(m, word))
+}
+
+// How much of a lent record is unsaved, for C.
+#[no_mangle]
+pub extern "C" fn xenpak_unsaved(m: &Module) -> u32
+    ensures { λ r. ⌜ r ≡ answerWord (saidUnsaved (unsavedOf (now (m .entry)))) ⌝ }
+{
+    unsaved_word(unsaved(*m))
 }
