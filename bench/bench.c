@@ -44,6 +44,7 @@ struct version {
     const char *name;
     uint32_t (*frame)(struct xenpak_module *, uint32_t);
     uint32_t (*tick)(struct xenpak_module *);
+    uint32_t (*unsaved)(const struct xenpak_module *);
     int16_t (*tenths)(int16_t);
     uint32_t (*make)(struct xenpak_module *, uint8_t, const uint8_t *, size_t, const uint8_t *, size_t);
     uint32_t (*power_on)(struct xenpak_module *);
@@ -60,8 +61,8 @@ struct version {
 
 #define VERSION(name, entry)                                                                                           \
     {                                                                                                                  \
-        #name, entry##_frame, entry##_tick, entry##_tenths, name##_make, name##_power_on, name##_cut,                  \
-            name##_cut_torn, name##_reset_pin, name##_lines, name##_sample, name##_settle, name##_line,              \
+        #name, entry##_frame, entry##_tick, entry##_unsaved, entry##_tenths, name##_make, name##_power_on,             \
+            name##_cut, name##_cut_torn, name##_reset_pin, name##_lines, name##_sample, name##_settle, name##_line,   \
             name##_counter, name##_stored                                                                              \
     }
 
@@ -69,7 +70,9 @@ enum { VERSIONS = 3 };
 
 static const struct version versions[VERSIONS] = {VERSION(library, xenpak), VERSION(plain, plain), VERSION(rust, rust)};
 
-enum name { FRAME, TICK, LINES, SAMPLE, SETTLE, RESET, CUT, CUT_TORN, POWER_ON, MAKE, LINE, COUNTER, STORED, TENTHS };
+enum name {
+    FRAME, TICK, LINES, SAMPLE, SETTLE, RESET, CUT, CUT_TORN, POWER_ON, MAKE, LINE, COUNTER, STORED, TENTHS, UNSAVED
+};
 
 static const char *const names[] = {"frame",    "tick",     "lines", "sample", "settle",  "reset pin", "cut",
                                     "cut torn", "power-on", "make",  "line",   "counter", "stored",    "tenths"};
@@ -201,10 +204,12 @@ static void nearly_full(void) {
     for (int v = 0; v < VERSIONS; v++) records[v].bus.counter |= 0xfff8;
 }
 
-/* Whether a version's answer or its record is another than the library's. Up to its last field a record has no hole. */
+/* Whether a version's answer, what it counts as unsaved or its record is another than the library's. Up to its last field a
+   record has no hole. */
 static bool differs(int v, const uint32_t *answers) {
     size_t whole = offsetof(struct xenpak_module, monitor.byte) + 1;
-    return answers[v] != answers[0] || memcmp(&records[v], &records[0], whole);
+    return answers[v] != answers[0] || versions[v].unsaved(&records[v]) != versions[0].unsaved(&records[0]) ||
+           memcmp(&records[v], &records[0], whole);
 }
 
 /* Reads out every temperature code: how often a version gives other tenths than the library. */
@@ -221,7 +226,7 @@ static unsigned long long readouts(void) {
 
 static int compare(unsigned long long calls, uint64_t seed) {
     static struct call c;
-    unsigned long long differences = 0, refused[256] = {0}, ticked[256] = {0}, framed[256] = {0};
+    unsigned long long differences = 0, refused[256] = {0}, ticked[256] = {0}, framed[256] = {0}, unsaved[49] = {0};
     state = seed;
     some_making(&c);
     for (unsigned long long i = 0; i < calls; i++, some_call(&c, &records[0])) {
@@ -232,6 +237,7 @@ static int compare(unsigned long long calls, uint64_t seed) {
             if (differs(v, answers) && differences++ < 10)
                 printf("call %llu, %s: library %08x, %s %08x\n", i, names[c.name], answers[0], versions[v].name,
                        answers[v]);
+        if (records[0].powered) unsaved[XENPAK_VALUE(xenpak_unsaved(&records[0]))]++;
         refused[XENPAK_REFUSAL(answers[0])]++;
         if (XENPAK_REFUSAL(answers[0])) continue;
         if (c.name == FRAME) framed[XENPAK_WHICH(answers[0])]++;
@@ -243,7 +249,8 @@ static int compare(unsigned long long calls, uint64_t seed) {
     printf("  ticks: nothing %llu, loaded %llu, burned %llu; refusals 1 to 8:", ticked[XENPAK_NOTHING],
            ticked[XENPAK_LOADED], ticked[XENPAK_BURNED]);
     for (int number = 1; number <= 8; number++) printf(" %llu", refused[number]);
-    printf("\n");
+    for (int bytes = 2; bytes < 48; bytes++) unsaved[1] += unsaved[bytes];
+    printf("\n  unsaved after a call: no byte %llu, 1 to 47 %llu, all 48 %llu\n", unsaved[0], unsaved[1], unsaved[48]);
     return readouts() + differences != 0;
 }
 
@@ -257,7 +264,8 @@ struct timed {
     uint32_t word;
 };
 
-/* A call, the job's kind, the address register, the frame's word. */
+/* A call, the job's kind, the address register, the frame's word. The plain versions compare 48 bytes to count those that are
+   unsaved. */
 static const struct timed cases[] = {
     {"tick that loads", TICK, 1, 0, 0},
     {"tick with no job", TICK, 0, 0, 0},
@@ -265,6 +273,7 @@ static const struct timed cases[] = {
     {"control read (9001)", FRAME, 0, 0x9001, 0x30060000},
     {"read that clears (9003)", FRAME, 0, 0x9003, 0x30060000},
     {"silent frame", FRAME, 0, 0x9001, 0x30860000},
+    {"how much is unsaved", UNSAVED, 0, 0, 0},
     {"sample", SAMPLE, 0, 0, 0},
     {"lines", LINES, 0, 0, 0},
 };
@@ -276,6 +285,7 @@ static struct xenpak_module prepared(const struct timed *t) {
     memset(&m, 0, sizeof m);
     for (int i = 0; i < 256; i++) m.store[i] = 7 * i;
     for (int i = 0; i < 40; i++) m.thresholds[i] = i;
+    m.differing = (struct xenpak_differing){.copy = 48, .zero = 48};
     m.powered = true;
     m.job = (struct xenpak_job){.due = 0, .last = 255, .ended = 0, .kind = t->kind};
     m.bus.address = t->address;
@@ -290,6 +300,7 @@ static uint32_t repeat(const struct version *v, const struct timed *t, uint32_t 
         sum += v->tick(&m);
     }
     for (uint32_t i = 0; t->call == FRAME && i < times; i++) sum += v->frame(&m, t->word);
+    for (uint32_t i = 0; t->call == UNSAVED && i < times; i++) sum += v->unsaved(&m);
     for (uint32_t i = 0; t->call == SAMPLE && i < times; i++)
         sum += v->sample(&m, (struct xenpak_sample){i & 0x3fff, i, i, i});
     for (uint32_t i = 0; t->call == LINES && i < times; i++)

@@ -38,6 +38,14 @@ static uint16_t stored(struct given g, uint16_t at) { return xenpak_stored(g.mod
 
 static uint16_t counter(struct given g, uint16_t at) { return (void)at, xenpak_counter(g.module); }
 
+static uint16_t unsaved(struct given g, uint16_t at) { return (void)at, XENPAK_VALUE(xenpak_unsaved(&g.module)); }
+
+/* After a start as many bytes are unsaved as differ from zero. */
+static uint16_t zero(struct given g, uint16_t at) {
+    g.module = xenpak_reset_pin(g.module).next;
+    return unsaved(g, at);
+}
+
 /* The code of a quantity, from its two registers. */
 static uint16_t code(struct given g, uint16_t at) { return read(&g.module, at) << 8 | read(&g.module, at + 1); }
 
@@ -132,6 +140,8 @@ static const struct row rows[] = {
     ROW(module, job.ended, status, 0x8000, 1, 3),
     ROW(module, job.kind, kind, 0, 1, 2),
     ROW(module, store, stored, 0, 0x5a, 0xa5),
+    ROW(module, differing.copy, unsaved, 0, 17, 200),
+    ROW(module, differing.zero, zero, 0, 17, 200),
     ROW(module, powered, powered, 0, 0, 1),
     ROW(module, port, port, 0, 21, 10),
     ROW(module, thresholds, value, 0xa000, 0x5a, 0xa5),

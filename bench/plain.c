@@ -1,4 +1,4 @@
-/* The module in plain C, changed in place: written from document 01, to compare the library with. */
+/* The module in plain C, changed in place: written from the papers, to compare the library with. */
 #include "plain.h"
 #include <string.h>
 
@@ -8,12 +8,37 @@ static uint32_t refused(uint32_t number) { return number << 24; }
 
 static uint32_t answer(uint32_t which, uint32_t value) { return which << 16 | value; }
 
+/* ---- bytes */
+
+/* Takes the bytes at an offset out of the counts, by -1, or puts them in, by 1. */
+static void count(struct xenpak_module *m, uint8_t at, int by) {
+    if (at < 119 || at > 166) return;
+    m->differing.copy += m->store[at] != m->copy[at] ? by : 0;
+    m->differing.zero += m->store[at] != 0 ? by : 0;
+}
+
+/* Puts a byte into store or copy. */
+static void put(struct xenpak_module *m, uint8_t *bytes, uint8_t at, uint8_t byte) {
+    count(m, at, -1);
+    bytes[at] = byte;
+    count(m, at, 1);
+}
+
+/* The full count. */
+uint32_t plain_unsaved(const struct xenpak_module *m) {
+    uint32_t bytes = 0;
+    if (!m->powered) return refused(XENPAK_POWERED_OFF);
+    for (int at = 119; at <= 166; at++) bytes += m->store[at] != m->copy[at];
+    return answer(XENPAK_BYTES, bytes);
+}
+
 /* ---- starts */
 
 /* What power-on and reset share. The lines' part of the alarms is left to them. */
 static void start(struct xenpak_module *m) {
     struct xenpak_alarms *a = &m->alarms;
     memset(m->copy, 0, sizeof m->copy);
+    m->differing.copy = m->differing.zero;
     m->job = (struct xenpak_job){.due = 0, .last = 255, .ended = 0, .kind = FIRST};
     m->command = 0x0003;
     memset(&m->bus, 0, sizeof m->bus);
@@ -50,7 +75,7 @@ uint32_t plain_cut(struct xenpak_module *m) {
 
 uint32_t plain_cut_torn(struct xenpak_module *m, uint8_t byte) {
     if (!m->powered) return refused(XENPAK_POWERED_OFF);
-    if (m->job.kind == BURN) m->store[m->job.due] = byte;
+    if (m->job.kind == BURN) put(m, m->store, m->job.due, byte);
     m->powered = false;
     return 0;
 }
@@ -69,10 +94,10 @@ uint32_t plain_tick(struct xenpak_module *m) {
         j->ended = 1;
     }
     if (kind == BURN) {
-        byte = m->store[at] = m->copy[at];
+        put(m, m->store, at, byte = m->copy[at]);
         return answer(XENPAK_BURNED, at << 8 | byte);
     }
-    byte = m->copy[at] = m->store[at];
+    put(m, m->copy, at, byte = m->store[at]);
     return answer(XENPAK_LOADED, at << 8 | byte);
 }
 
@@ -206,7 +231,7 @@ static uint32_t write_at(struct xenpak_module *m, uint16_t address, uint16_t dat
     bool busy = m->job.kind != NONE;
     if (address >= 0x807e && address <= 0x80ad) {
         if (busy) return answer(XENPAK_DROPPED, 0);
-        m->copy[address - 0x8007] = data & 0xff;
+        put(m, m->copy, address - 0x8007, data & 0xff);
         return answer(XENPAK_WRITTEN, 0);
     }
     switch (address) {
@@ -325,7 +350,7 @@ uint32_t plain_make(struct xenpak_module *m, uint8_t port, const uint8_t *image,
     memset(m, 0, sizeof *m);
     if (number) return refused(number);
     m->port = port;
-    memcpy(m->store, image, 256);
+    for (int at = 0; at < 256; at++) put(m, m->store, at, image[at]);
     memcpy(m->thresholds, thresholds, 40);
     return 0;
 }

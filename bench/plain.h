@@ -18,6 +18,7 @@
     bool name##_line(const struct xenpak_module *m);                                                                   \
     uint16_t name##_counter(const struct xenpak_module *m);                                                            \
     uint8_t name##_stored(const struct xenpak_module *m, uint8_t offset);                                              \
+    uint32_t name##_unsaved(const struct xenpak_module *m);                                                            \
     int16_t name##_tenths(int16_t code)
 
 PLAIN(plain);

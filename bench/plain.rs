@@ -1,4 +1,4 @@
-//! The module in plain Rust, changed in place: written from document 01, to compare the library with.
+//! The module in plain Rust, changed in place: written from the papers, to compare the library with.
 use std::slice::from_raw_parts;
 
 const IDLE: u8 = 0;
@@ -12,6 +12,14 @@ pub struct Job {
     last: u8,
     ended: u8,
     kind: u8,
+}
+
+/// Customer bytes of the store that are not the copy's, and that are not zero.
+#[repr(C)]
+#[derive(Default)]
+pub struct Differing {
+    copy: u8,
+    zero: u8,
 }
 
 #[repr(C)]
@@ -74,6 +82,7 @@ pub struct Module {
     copy: [u8; 256],
     job: Job,
     store: [u8; 256],
+    differing: Differing,
     powered: bool,
     port: u8,
     thresholds: [u8; 40],
@@ -100,6 +109,7 @@ const DATA: u32 = 5 << 16;
 const NOTHING: u32 = 1 << 16;
 const LOADED: u32 = 2 << 16;
 const BURNED: u32 = 3 << 16;
+const BYTES: u32 = 1 << 16;
 const OFF: u32 = 7 << 24;
 const ON: u32 = 8 << 24;
 const TEMPERATURE: u32 = 6 << 24;
@@ -170,9 +180,39 @@ impl Monitor {
 }
 
 impl Module {
+    /// What the customer byte at an offset adds to the counts.
+    fn differs(&self, at: usize) -> (u8, u8) {
+        let customer = (119..=166).contains(&at);
+        let (store, copy) = (self.store[at], self.copy[at]);
+        (
+            (customer && store != copy) as u8,
+            (customer && store != 0) as u8,
+        )
+    }
+
+    /// The counts when the bytes at an offset have changed, by what they added before.
+    fn recount(&mut self, at: usize, (copy, zero): (u8, u8)) {
+        let now = self.differs(at);
+        self.differing.copy = self.differing.copy - copy + now.0;
+        self.differing.zero = self.differing.zero - zero + now.1;
+    }
+
+    fn set_copy(&mut self, at: usize, byte: u8) {
+        let was = self.differs(at);
+        self.copy[at] = byte;
+        self.recount(at, was);
+    }
+
+    fn set_store(&mut self, at: usize, byte: u8) {
+        let was = self.differs(at);
+        self.store[at] = byte;
+        self.recount(at, was);
+    }
+
     /// What power-on and reset share: the lines stay.
     fn start(&mut self) {
         self.copy = [0; 256];
+        self.differing.copy = self.differing.zero;
         self.job = Job {
             due: 0,
             last: 255,
@@ -277,7 +317,7 @@ impl Module {
         match address {
             0x0000 if data & 0x8000 != 0 => self.start(),
             0x8000 if free => self.command(data),
-            0x807e..=0x80ad if free => self.copy[(address - 0x8007) as usize] = data as u8,
+            0x807e..=0x80ad if free => self.set_copy((address - 0x8007) as usize, data as u8),
             0x9000 => self.alarms.controls.rx_alarm = data & 0x003b,
             0x9001 => self.alarms.controls.tx_alarm = data & 0x03db,
             0x9002 => self.alarms.controls.lasi = data & 0x0007,
@@ -343,7 +383,7 @@ pub extern "C" fn rust_cut(m: &mut Module) -> u32 {
 #[no_mangle]
 pub extern "C" fn rust_cut_torn(m: &mut Module, byte: u8) -> u32 {
     if m.powered && m.job.kind == BURN {
-        m.store[m.job.due as usize] = byte;
+        m.set_store(m.job.due as usize, byte);
     }
     rust_cut(m)
 }
@@ -365,10 +405,10 @@ pub extern "C" fn rust_tick(m: &mut Module) -> u32 {
     }
     let i = at as usize;
     let which = if kind == BURN {
-        m.store[i] = m.copy[i];
+        m.set_store(i, m.copy[i]);
         BURNED
     } else {
-        m.copy[i] = m.store[i];
+        m.set_copy(i, m.store[i]);
         LOADED
     };
     which | (at as u32) << 8 | m.copy[i] as u32
@@ -461,6 +501,16 @@ pub extern "C" fn rust_stored(m: &Module, offset: u8) -> u8 {
     m.store[offset as usize]
 }
 
+/// The full count.
+#[no_mangle]
+pub extern "C" fn rust_unsaved(m: &Module) -> u32 {
+    if !m.powered {
+        return OFF;
+    }
+    let bytes = m.copy.iter().zip(&m.store).skip(119).take(48);
+    BYTES | bytes.filter(|(copy, store)| copy != store).count() as u32
+}
+
 #[no_mangle]
 pub extern "C" fn rust_tenths(code: i16) -> i16 {
     (code as f64 * 10.0 / 256.0).round_ties_even() as i16
@@ -527,5 +577,7 @@ pub unsafe extern "C" fn rust_make(
         m.store.copy_from_slice(image);
         m.thresholds.copy_from_slice(thresholds);
     }
+    let zero = m.store[119..=166].iter().filter(|byte| **byte != 0).count() as u8;
+    m.differing = Differing { copy: zero, zero };
     number << 24
 }

@@ -20,6 +20,13 @@ struct xenpak_job {
     uint8_t kind;
 };
 
+/* How many customer bytes of the store differ: from the copy, which are unsaved; from zero, which are unsaved once a start
+   has zeroed the copy. */
+struct xenpak_differing {
+    uint8_t copy;
+    uint8_t zero;
+};
+
 /* The address register, and the data answers since power-on or reset. */
 struct xenpak_bus {
     uint16_t address;
@@ -75,6 +82,7 @@ struct xenpak_module {
     uint8_t copy[256];
     struct xenpak_job job;
     uint8_t store[256];
+    struct xenpak_differing differing;
     bool powered;
     uint8_t port;
     uint8_t thresholds[40];
@@ -119,8 +127,8 @@ enum xenpak_refusal {
     XENPAK_POWERED_ON = 8
 };
 
-/* The answer of a tick or a frame: bits 31:24 the refusal's number or 0, 23:16 which answer it is, 0 where it is refused,
-   15:0 its value; for loaded and burned bits 15:8 the offset and 7:0 the byte. */
+/* The answer of a call on a lent record: bits 31:24 the refusal's number or 0, 23:16 which answer it is, 0 where it is
+   refused, 15:0 its value; for loaded and burned bits 15:8 the offset and 7:0 the byte. */
 #define XENPAK_REFUSAL(answer) ((answer) >> 24)
 #define XENPAK_WHICH(answer) ((answer) >> 16 & 0xff)
 #define XENPAK_VALUE(answer) ((answer) & 0xffff)
@@ -131,6 +139,8 @@ enum xenpak_tick_answer { XENPAK_NOTHING = 1, XENPAK_LOADED, XENPAK_BURNED };
 
 enum xenpak_frame_answer { XENPAK_SILENT = 1, XENPAK_SET, XENPAK_WRITTEN, XENPAK_DROPPED, XENPAK_DATA };
 
+enum xenpak_unsaved_answer { XENPAK_BYTES = 1 };
+
 /* ---- on a lent record, updated there */
 
 /* One byte of the job: nothing, loaded or burned with offset and byte.
@@ -140,6 +150,13 @@ uint32_t xenpak_tick(struct xenpak_module *m);
 /* A Clause 45 frame: silent, set, written, dropped, or data with its value.
    Refused with 7 when off. */
 uint32_t xenpak_frame(struct xenpak_module *m, uint32_t word);
+
+/* ---- on a lent record, left as it is */
+
+/* How many of the 48 customer bytes differ between copy and store: bytes, with their count. The record keeps it; no byte is
+   compared.
+   Refused with 7 when off. */
+uint32_t xenpak_unsaved(const struct xenpak_module *m);
 
 /* ---- by value: m = xenpak_power_on(m).next */
 

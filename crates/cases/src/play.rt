@@ -16,6 +16,7 @@ use dom::signed_code;
 use reads::alarm_line;
 use reads::counter;
 use reads::stored;
+use reads::unsaved;
 use settling::settle;
 use store::Cut;
 use xenpak::Module;
@@ -152,6 +153,7 @@ fn look(m: Module, step: Step) {
         LINE => number(alarm_line(m) as u32),
         COUNT => number(counter(m) as u32),
         STORED => crate::print::word(stored(m, (decimal(step.first) % 256) as u8) as u16),
+        UNSAVED => crate::print::unsaved(unsaved(m)),
         CHANGED => number(changed(m)),
         TENTHS => signed(tenths(signed_code((step.first % 0x1_0000) as u16))),
         NEAR | HALVES => number(crate::readout::count(word)),

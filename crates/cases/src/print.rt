@@ -5,6 +5,7 @@ use answers::FrameAnswer;
 use answers::Refusal;
 use answers::SettleAnswer;
 use answers::TickAnswer;
+use answers::UnsavedAnswer;
 use calls::CallAnswer;
 use libc::STDOUT_FILENO;
 
@@ -78,6 +79,16 @@ pub fn settled(answer: SettleAnswer) {
     match answer {
         SettleAnswer::Ticks(n) => number(n),
         SettleAnswer::Refused(why) => refusal(why),
+    }
+}
+
+pub fn unsaved(answer: UnsavedAnswer) {
+    match answer {
+        UnsavedAnswer::Bytes(n) => {
+            text(b"=bytes");
+            number(n as u32)
+        }
+        UnsavedAnswer::Refused(why) => refusal(why),
     }
 }
 

@@ -57,6 +57,8 @@ pub const COUNTED: u64 = 0x63_6f75_6e74_6564;
 
 pub const STORED: u64 = 0x7374_6f72_6564;
 
+pub const UNSAVED: u64 = 0x75_6e73_6176_6564;
+
 pub const CHANGED: u64 = 0x63_6861_6e67_6564;
 
 pub const TENTHS: u64 = 0x7465_6e74_6873;

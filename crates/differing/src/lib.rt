@@ -100,13 +100,7 @@ impl Differing {
     }
 
     // After a cut, by what a tick would have done and the bytes before it.
-    pub fn after_cut(
-        self,
-        store: &[u8; 256],
-        copy: &[u8; 256],
-        work: Work,
-        cut: Cut,
-    ) -> Differing
+    pub fn after_cut(self, store: &[u8; 256], copy: &[u8; 256], work: Work, cut: Cut) -> Differing
         ensures { λ r. ⌜ r ≡ differingCut self (now (store .entry)) (now (copy .entry)) work cut ⌝ }
     {
         match work {
