@@ -19,5 +19,5 @@ of-spec =
     (λ c κs. search needs)
     (λ c. search needs)
     (λ c. search needs)
-    (λ c. more (c .before .before .before .before .loop .inv) (c .before .before .before .loop-test .taken) (c .before .differ .ensures) (c .recount .ensures))
-    (λ c. whole (c .before .loop .inv) (c .loop-test .left)))
+    (λ c. more (c .before .before .before .before .loop .inv) (search needs) (c .before .differ .ensures) (c .recount .ensures))
+    (λ c. whole (c .before .loop .inv) (search needs)))
