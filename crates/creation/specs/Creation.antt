@@ -12,7 +12,7 @@ use Rattle.store.specs.Bytes.{zeros}
 use Rattle.thresholds.specs.Thresholds.{thresholdsOf, ordered}
 use Rattle.monitor.specs.Monitor.{noMonitor}
 use Rattle.alarms.specs.Alarms.{noAlarms}
-use Rattle.differing.specs.Differing.{fullCount}
+use Rattle.differing.specs.Differing.{countsOf}
 use Rattle.bus.specs.Bus.{noBus}
 use Rattle.answers.specs.Answers.{creationAnswer}
 use Rattle.xenpak.specs.Calls.{taken}
@@ -26,7 +26,7 @@ fresh port image thresholds =
       store = image;
       job = noJob;
       copy = zeros 256;
-      differing = fullCount image (zeros 256);
+      differing = countsOf image (zeros 256);
       powered = false;
       port = port;
       thresholds = thresholds;

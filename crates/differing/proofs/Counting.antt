@@ -10,7 +10,7 @@ use lib.ListN.{getD}
 use mir.Val.{boolByte}
 use Rattle.store.specs.Bytes.{zeros}
 use Rattle.store.proofs.Zeros.{zeros-at}
-use Rattle.differing.specs.Differing.{differing, differ, one, howMany, differences, fullCount, recount}
+use Rattle.differing.specs.Differing.{differing, differ, one, howMany, differences, countsOf, recount}
 
 pub record Bit (b : Bool) : Type 0 where
   pub is : boolByte b ≡ one b
@@ -43,7 +43,7 @@ more {store} {n} {i} {r} {b} k h e q =
       count = s ∙ (λ j. k .count j + one (d j)) ∙ ap (λ (x : ℕ). howMany x (differAt store (zeros 256))) (sym (add-one i));
     }
 
-pub whole : {store : List ℕ} {n i : ℕ} → Counting store n i → 48 ≤ i → differing n n ≡ fullCount store (zeros 256)
+pub whole : {store : List ℕ} {n i : ℕ} → Counting store n i → 48 ≤ i → differing n n ≡ countsOf store (zeros 256)
 unfolding differences
 whole {store} {n} {i} k h =
     let e : i ≡ 48 = omega (arith, k .within) in

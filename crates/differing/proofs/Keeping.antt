@@ -21,7 +21,7 @@ use Rattle.store.specs.Bytes.{loadedCopy, burnedStore, tornStore, writtenCopy, 
 use Rattle.store.specs.declared.Cut.{Cut}
 use Rattle.store.specs.declared.Cut.the-variants.{Clean, Torn}
 use Rattle.store.proofs.Zeros.{zeros-at}
-use Rattle.differing.specs.Differing.{differing, differ, one, howMany, differences, fullCount, recount, copied, stored, differingTicked, differingCut, differingAfter, BurnsCustomer, WritesCustomer, Kept, CountsKept}
+use Rattle.differing.specs.Differing.{differing, differ, one, howMany, differences, countsOf, recount, copied, stored, differingTicked, differingCut, differingAfter, BurnsCustomer, WritesCustomer, Kept, CountsKept}
 use Rattle.differing.proofs.Counting.{bit, differAt}
 
 -- ---- a count when one of what is counted changes
@@ -66,7 +66,7 @@ module _ (a b a′ b′ : List ℕ) (o : ℕ) (same : (i : ℕ) → i ≢ o → 
 other : (l : List ℕ) (o b i : ℕ) → i ≢ o → getD l i 0 ≡ getD (set l o b) i 0
 other l o b i f = sym (getD-set-other l o i b 0 f)
 
-copy-elsewhere : (store copy : List ℕ) (o b : ℕ) → isCustomer (regionOf o) ≡ false → fullCount store copy ≡ fullCount store (set copy o b)
+copy-elsewhere : (store copy : List ℕ) (o b : ℕ) → isCustomer (regionOf o) ≡ false → countsOf store copy ≡ countsOf store (set copy o b)
 copy-elsewhere store copy o b h =
     ap (λ (n : ℕ). differing n (differences store (zeros 256))) (elsewhere store copy store (set copy o b) o (λ i f. ap (differ (getD store i 0)) (other copy o b i f)) h)
 
@@ -74,12 +74,12 @@ module _ (store copy : List ℕ) (o b : ℕ) (h : isCustomer (regionOf o) ≡ tr
   here : (l : List ℕ) → length l ≡ 256 → getD (set l o b) o 0 ≡ b
   here l e = let r = range-true 119 166 o (sym (customer-is o) ∙ h) in getD-set-same l o b 0 (omega arith)
 
-  copy-set : length copy ≡ 256 → copied (fullCount store copy) (getD store o 0) (getD copy o 0) b ≡ fullCount store (set copy o b)
+  copy-set : length copy ≡ 256 → copied (countsOf store copy) (getD store o 0) (getD copy o 0) b ≡ countsOf store (set copy o b)
   copy-set e =
       ap (λ (n : ℕ). differing n (differences store (zeros 256)))
       (rw (here copy e) at (at-customer store copy store (set copy o b) o (λ i f. ap (differ (getD store i 0)) (other copy o b i f)) h))
 
-  store-set : length store ≡ 256 → stored (fullCount store copy) (getD store o 0) (getD copy o 0) b ≡ fullCount (set store o b) copy
+  store-set : length store ≡ 256 → stored (countsOf store copy) (getD store o 0) (getD copy o 0) b ≡ countsOf (set store o b) copy
   store-set e = ap₂ differing (rw (here store e) at (beside copy)) (rw (here store e, zero) at (beside (zeros 256)))
     where
       beside : (l : List ℕ) → recount (differences store l) (differ (getD store o 0) (getD l o 0)) (differ (getD (set store o b) o 0) (getD l o 0)) ≡ differences (set store o b) l
@@ -97,25 +97,25 @@ counts-kept store copy s c =
       frames = frames;
     }
   where
-    ticks : (work : Work) → BurnsCustomer work → differingTicked (fullCount store copy) store copy work ≡ fullCount (burnedStore store copy work) (loadedCopy store copy work)
+    ticks : (work : Work) → BurnsCustomer work → differingTicked (countsOf store copy) store copy work ≡ countsOf (burnedStore store copy work) (loadedCopy store copy work)
     ticks Refused h = refl
     ticks Nothing h = refl
     ticks (Load due) h = loads (isCustomer (regionOf due)) refl
       where
         loads : (b : Bool) → isCustomer (regionOf due) ≡ b
-            → cond b (copied (fullCount store copy) (getD store due 0) (getD copy due 0) (getD store due 0)) (fullCount store copy) ≡ fullCount store (set copy due (getD store due 0))
+            → cond b (copied (countsOf store copy) (getD store due 0) (getD copy due 0) (getD store due 0)) (countsOf store copy) ≡ countsOf store (set copy due (getD store due 0))
         loads true e = copy-set store copy due (getD store due 0) e c
         loads false e = copy-elsewhere store copy due (getD store due 0) e
     ticks (Burn due) h = store-set store copy due (getD copy due 0) h s
 
-    cuts : (work : Work) (cut : Cut) → BurnsCustomer work → differingCut (fullCount store copy) store copy work cut ≡ fullCount (tornStore store work cut) copy
+    cuts : (work : Work) (cut : Cut) → BurnsCustomer work → differingCut (countsOf store copy) store copy work cut ≡ countsOf (tornStore store work cut) copy
     cuts Refused cut h = refl
     cuts Nothing cut h = refl
     cuts (Load due) cut h = refl
     cuts (Burn due) Clean h = refl
     cuts (Burn due) (Torn byte) h = store-set store copy due byte h s
 
-    frames : (a : Action) → WritesCustomer a → differingAfter (fullCount store copy) store copy a ≡ fullCount store (writtenCopy copy a)
+    frames : (a : Action) → WritesCustomer a → differingAfter (countsOf store copy) store copy a ≡ countsOf store (writtenCopy copy a)
     frames action.Refused h = refl
     frames action.Silent h = refl
     frames (action.SetAddress a) h = refl

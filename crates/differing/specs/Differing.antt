@@ -1,5 +1,5 @@
--- How many customer bytes of the store differ from the copy, and from zero: the full counts, and how they are kept when a
--- byte of store or copy changes. Document 02, P3.
+-- How many customer bytes of the store differ from the copy, and from zero: counted, and kept when a byte of store or copy
+-- changes. Document 02, P3.
 -- Assumes nothing.
 use Prim.Native.Nat.{ℕ, zero, suc, _+_, _-_, _%_}
 use mathlib.Core.Bool.{Bool, true, cond, not}
@@ -27,19 +27,19 @@ differ a b = not (eqb a b)
 abbrev pub one : Bool → ℕ
 one b = cond b 1 0
 
--- ---- the full counts
+-- ---- counted
 -- how many numbers below n are so
 abbrev pub howMany : ℕ → (ℕ → Bool) → ℕ
 howMany zero p = 0
 howMany (suc n) p = howMany n p + one (p n)
 
--- how many of the 48 customer bytes, from offset 119 on, differ
+-- how many of the 48 customer bytes, from offset 119 on, differ: of copy and store the full count (document 02)
 unfoldable pub differences : List ℕ → List ℕ → ℕ
 differences a b = howMany 48 (λ i. differ (getD a (119 + i) 0) (getD b (119 + i) 0))
 
--- those of the store: from the copy, from zero
-abbrev pub fullCount : (store copy : List ℕ) → Differing
-fullCount store copy = differing (differences store copy) (differences store (zeros 256))
+-- of the store: from the copy, from zero
+abbrev pub countsOf : (store copy : List ℕ) → Differing
+countsOf store copy = differing (differences store copy) (differences store (zeros 256))
 
 -- ---- kept
 -- a count, in eight bits, when one customer byte changes: one less if it differed, one more if it differs now
@@ -89,7 +89,7 @@ differingAfter d store copy (action.Customer offset byte) = copied d (getD store
 differingAfter d store copy (action.Control i word) = d
 differingAfter d store copy (action.Read r increment) = d
 
--- ---- so the counts that are kept are the full counts
+-- ---- so what is kept is what is counted
 -- only customer bytes are burned
 abbrev pub BurnsCustomer : Work → Type 0
 BurnsCustomer Refused = Unit {0}
@@ -111,13 +111,13 @@ WritesCustomer (action.Read r increment) = Unit {0}
 
 -- of a store and a copy of 256 bytes, what the counts become is what is counted in the bytes after it
 pub record Kept (store copy : List ℕ) : Type 0 where
-  pub starts : differingStarted (fullCount store copy) ≡ fullCount store (zeros 256)
+  pub starts : differingStarted (countsOf store copy) ≡ countsOf store (zeros 256)
   pub ticks : (work : Work) → BurnsCustomer work
-      → differingTicked (fullCount store copy) store copy work ≡ fullCount (burnedStore store copy work) (loadedCopy store copy work)
+      → differingTicked (countsOf store copy) store copy work ≡ countsOf (burnedStore store copy work) (loadedCopy store copy work)
   pub cuts : (work : Work) (cut : Cut) → BurnsCustomer work
-      → differingCut (fullCount store copy) store copy work cut ≡ fullCount (tornStore store work cut) copy
+      → differingCut (countsOf store copy) store copy work cut ≡ countsOf (tornStore store work cut) copy
   pub frames : (a : Action) → WritesCustomer a
-      → differingAfter (fullCount store copy) store copy a ≡ fullCount store (writtenCopy copy a)
+      → differingAfter (countsOf store copy) store copy a ≡ countsOf store (writtenCopy copy a)
 
 abbrev pub CountsKept : Type 0
 CountsKept = (store copy : List ℕ) → length store ≡ 256 → length copy ≡ 256 → Kept store copy

@@ -1,7 +1,7 @@
 // How many customer bytes of the store differ from the copy, and from zero, kept when a byte of store or copy changes.
 ghost use mathlib.Core.Path.{_≡_};
 ghost use Rattle.store.specs.Bytes.{zeros};
-ghost use Rattle.differing.specs.Differing.{differ, fullCount, recount, copied, stored, differingStarted, differingTicked, differingCut, differingAfter};
+ghost use Rattle.differing.specs.Differing.{differ, countsOf, recount, copied, stored, differingStarted, differingTicked, differingCut, differingAfter};
 use action::Action;
 use nvr::image::Region;
 use store::Cut;
@@ -36,7 +36,7 @@ fn recount(n: u8, was: bool, is: bool) -> u8
 impl Differing {
     // Counted in a store, beside a copy of zeros.
     pub fn of(store: &[u8; 256]) -> Differing
-        ensures { λ r. ⌜ r ≡ fullCount (now (store .entry)) (zeros 256) ⌝ }
+        ensures { λ r. ⌜ r ≡ countsOf (now (store .entry)) (zeros 256) ⌝ }
     {
         let mut n: u8 = 0;
         let mut i = 0;

@@ -10,7 +10,7 @@ use Rattle.work.specs.declared.Work.{Work}
 use Rattle.work.specs.declared.Work.the-variants as work
 use Rattle.store.specs.Bytes.{tornStore, zeros}
 use Rattle.jobs.specs.Job.{noJob}
-use Rattle.differing.specs.Differing.{fullCount, differingCut}
+use Rattle.differing.specs.Differing.{countsOf, differingCut}
 use Rattle.differing.specs.declared.Differing.{Differing}
 use Rattle.alarms.specs.Alarms.{noAlarms}
 use Rattle.store.specs.declared.Cut.the-variants.{Clean}
@@ -142,7 +142,7 @@ module _ (p : ℕ) (image t : List ℕ) (cs : List Call) where
       run-append a cs (powerCycle m)
       ∙ power-cycle m
       ∙ ap (startFrom (fixedOf m) (m .store)) (run-counted p image t size cs .counts)
-      ∙ ap₂ (λ (f : Fixed) (s : List ℕ). startFrom f s (fullCount s (zeros 256))) (run-fixed a no-job-sound cs) store-is
+      ∙ ap₂ (λ (f : Fixed) (s : List ℕ). startFrom f s (countsOf s (zeros 256))) (run-fixed a no-job-sound cs) store-is
 
   b-made : makeRefusal p image t ≡ 0 → makeRefusal p (applied log image) t ≡ 0
   b-made e = refusal-front p image (applied log image) t (applied-length log image) (applied-front log image customer-log) ∙ e

@@ -18,8 +18,7 @@ use Rattle.work.specs.declared.Work.the-variants as work
 use Rattle.store.specs.Bytes.{loadedCopy, burnedStore, tornStore, zeros}
 use Rattle.store.specs.declared.Cut.{Cut}
 use Rattle.store.specs.declared.Cut.the-variants.{Clean, Torn}
-use Rattle.differing.specs.Differing as code
-use Rattle.differing.specs.Differing.{differ, one, howMany, differences, differingStarted, differingTicked, differingCut, differingAfter, BurnsCustomer, Kept}
+use Rattle.differing.specs.Differing.{differ, one, howMany, differences, countsOf, differingStarted, differingTicked, differingCut, differingAfter, BurnsCustomer, Kept}
 use Rattle.differing.specs.declared.Differing.{Differing}
 use Rattle.differing.proofs.Keeping.{alike, counts-kept}
 use Rattle.answers.specs.Answers.{Said, saidUnsaved, unsavedAnswer}
@@ -58,7 +57,7 @@ module _ (s c : List ℕ) where
 pub record Counts (s c : List ℕ) (d : Differing) : Type 0 where
   pub store : length s ≡ 256
   pub copy : length c ≡ 256
-  pub counts : d ≡ code.fullCount s c
+  pub counts : d ≡ countsOf s c
 
 abbrev pub Counted : Module → Type 0
 Counted m = Counts (m .store) (m .copy) (m .differing)
@@ -67,7 +66,7 @@ zeros-length : length (zeros 256) ≡ 256
 unfolding zeros
 zeros-length = refl
 
-pub fresh-counts : (image : List ℕ) → length image ≡ 256 → Counts image (zeros 256) (code.fullCount image (zeros 256))
+pub fresh-counts : (image : List ℕ) → length image ≡ 256 → Counts image (zeros 256) (countsOf image (zeros 256))
 fresh-counts image e = record { store = e; copy = zeros-length; counts = refl }
 
 burns-customer : (j : Job) (command : ℕ) → JobSound j command → BurnsCustomer (workOf true j)
