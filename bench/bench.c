@@ -226,7 +226,7 @@ static unsigned long long readouts(void) {
 
 static int compare(unsigned long long calls, uint64_t seed) {
     static struct call c;
-    unsigned long long differences = 0, refused[256] = {0}, ticked[256] = {0}, framed[256] = {0}, unsaved[49] = {0};
+    unsigned long long differences = 0, refused[256] = {0}, ticked[256] = {0}, framed[256] = {0}, unsaved[256] = {0};
     state = seed;
     some_making(&c);
     for (unsigned long long i = 0; i < calls; i++, some_call(&c, &records[0])) {

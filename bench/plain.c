@@ -10,18 +10,22 @@ static uint32_t answer(uint32_t which, uint32_t value) { return which << 16 | va
 
 /* ---- bytes */
 
-/* Takes the bytes at an offset out of the counts, by -1, or puts them in, by 1. */
-static void count(struct xenpak_module *m, uint8_t at, int by) {
-    if (at < 119 || at > 166) return;
-    m->differing.copy += m->store[at] != m->copy[at] ? by : 0;
-    m->differing.zero += m->store[at] != 0 ? by : 0;
+static bool customer(uint8_t at) { return at >= 119 && at <= 166; }
+
+/* Puts a byte into the copy, and counts what a customer byte was and is. */
+static void put_copy(struct xenpak_module *m, uint8_t at, uint8_t byte) {
+    uint8_t store = m->store[at], copy = m->copy[at];
+    m->copy[at] = byte;
+    if (customer(at)) m->differing.copy += (store != byte) - (store != copy);
 }
 
-/* Puts a byte into store or copy. */
-static void put(struct xenpak_module *m, uint8_t *bytes, uint8_t at, uint8_t byte) {
-    count(m, at, -1);
-    bytes[at] = byte;
-    count(m, at, 1);
+/* The same for the store. */
+static void put_store(struct xenpak_module *m, uint8_t at, uint8_t byte) {
+    uint8_t store = m->store[at], copy = m->copy[at];
+    m->store[at] = byte;
+    if (!customer(at)) return;
+    m->differing.copy += (byte != copy) - (store != copy);
+    m->differing.zero += (byte != 0) - (store != 0);
 }
 
 /* The full count. */
@@ -75,7 +79,7 @@ uint32_t plain_cut(struct xenpak_module *m) {
 
 uint32_t plain_cut_torn(struct xenpak_module *m, uint8_t byte) {
     if (!m->powered) return refused(XENPAK_POWERED_OFF);
-    if (m->job.kind == BURN) put(m, m->store, m->job.due, byte);
+    if (m->job.kind == BURN) put_store(m, m->job.due, byte);
     m->powered = false;
     return 0;
 }
@@ -94,10 +98,10 @@ uint32_t plain_tick(struct xenpak_module *m) {
         j->ended = 1;
     }
     if (kind == BURN) {
-        put(m, m->store, at, byte = m->copy[at]);
+        put_store(m, at, byte = m->copy[at]);
         return answer(XENPAK_BURNED, at << 8 | byte);
     }
-    put(m, m->copy, at, byte = m->store[at]);
+    put_copy(m, at, byte = m->store[at]);
     return answer(XENPAK_LOADED, at << 8 | byte);
 }
 
@@ -231,7 +235,7 @@ static uint32_t write_at(struct xenpak_module *m, uint16_t address, uint16_t dat
     bool busy = m->job.kind != NONE;
     if (address >= 0x807e && address <= 0x80ad) {
         if (busy) return answer(XENPAK_DROPPED, 0);
-        put(m, m->copy, address - 0x8007, data & 0xff);
+        put_copy(m, address - 0x8007, data & 0xff);
         return answer(XENPAK_WRITTEN, 0);
     }
     switch (address) {
@@ -350,7 +354,7 @@ uint32_t plain_make(struct xenpak_module *m, uint8_t port, const uint8_t *image,
     memset(m, 0, sizeof *m);
     if (number) return refused(number);
     m->port = port;
-    for (int at = 0; at < 256; at++) put(m, m->store, at, image[at]);
+    for (int at = 0; at < 256; at++) put_store(m, at, image[at]);
     memcpy(m->thresholds, thresholds, 40);
     return 0;
 }

@@ -507,7 +507,7 @@ pub extern "C" fn rust_unsaved(m: &Module) -> u32 {
     if !m.powered {
         return OFF;
     }
-    let bytes = m.copy.iter().zip(&m.store).skip(119).take(48);
+    let bytes = m.copy[119..=166].iter().zip(&m.store[119..=166]);
     BYTES | bytes.filter(|(copy, store)| copy != store).count() as u32
 }
 
