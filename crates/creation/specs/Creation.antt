@@ -19,7 +19,7 @@ use Rattle.xenpak.specs.Calls.{taken}
 use Rattle.xenpak.specs.declared.Module.{Module}
 use Rattle.xenpak.specs.declared.Outcome.{Outcome}
 
--- off, with this store and these thresholds, its customer bytes counted, all else at zero
+-- off, with this store, counted beside a copy of zeros, and these thresholds; all else at zero
 abbrev pub fresh : ℕ → List ℕ → List ℕ → Module
 fresh port image thresholds =
     record {

@@ -29,7 +29,7 @@ fn copied(bytes: &[u8], into: &mut [u8]) -> bool
     true
 }
 
-// Off, with this store and these thresholds, its customer bytes counted, all else at zero.
+// Off, with this store, counted beside a copy of zeros, and these thresholds; all else at zero.
 fn fresh(port: u8, store: [u8; 256], thresholds: [u8; 40]) -> Module
     ensures { λ r. ⌜ r ≡ fresh port store thresholds ⌝ }
 {

@@ -13,15 +13,14 @@ use borrow.Author.Tests.{eqb-true, eqb-false}
 use Rattle.action.specs.declared.Action.{Action}
 use Rattle.action.specs.declared.Action.the-variants as action
 use Rattle.nvr.specs.Image.{regionOf, isCustomer}
-use Rattle.registers.proofs.Between.{range-true, in-range}
-use Rattle.nvr.proofs.Regions.{customer-is}
+use Rattle.nvr.proofs.Regions.{customer-range, range-customer}
 use Rattle.work.specs.declared.Work.{Work}
 use Rattle.work.specs.declared.Work.the-variants.{Refused, Nothing, Load, Burn}
 use Rattle.store.specs.Bytes.{loadedCopy, burnedStore, tornStore, writtenCopy, zeros}
 use Rattle.store.specs.declared.Cut.{Cut}
 use Rattle.store.specs.declared.Cut.the-variants.{Clean, Torn}
 use Rattle.store.proofs.Zeros.{zeros-at}
-use Rattle.differing.specs.Differing.{differing, differ, one, howMany, differences, countsOf, recount, copied, stored, differingTicked, differingCut, differingAfter, BurnsCustomer, WritesCustomer, Kept, CountsKept}
+use Rattle.differing.specs.Differing.{differing, differ, one, howMany, differences, countsOf, recount, copied, stored, differingTicked, differingCut, differingAfter, BurnsCustomer, WritesCustomer, CountsKept}
 use Rattle.differing.proofs.Counting.{bit, differAt}
 
 -- ---- a count when one of what is counted changes
@@ -51,7 +50,7 @@ module _ (a b a′ b′ : List ℕ) (o : ℕ) (same : (i : ℕ) → i ≢ o → 
   at-customer : isCustomer (regionOf o) ≡ true → recount (differences a b) (differ (getD a o 0) (getD b o 0)) (differ (getD a′ o 0) (getD b′ o 0)) ≡ differences a′ b′
   unfolding differences
   at-customer h =
-      let r = range-true 119 166 o (sym (customer-is o) ∙ h) in
+      let r = customer-range o h in
       let at : 119 + (o - 119) ≡ o = omega arith in
       rw at at (changed (differAt a b) (differAt a′ b′) (o - 119) (λ i f. same (119 + i) (λ e. f (omega arith))) 48 (omega arith) (omega arith))
 
@@ -60,7 +59,7 @@ module _ (a b a′ b′ : List ℕ) (o : ℕ) (same : (i : ℕ) → i ≢ o → 
   elsewhere h = alike 48 (differAt a b) (differAt a′ b′) (λ i l. same (119 + i) (λ e. apart i l e))
     where
       apart : (i : ℕ) → i < 48 → 119 + i ≢ o
-      apart i l e = true≢false (sym (in-range 119 166 o (omega arith) (omega arith)) ∙ sym (customer-is o) ∙ h)
+      apart i l e = true≢false (sym (range-customer o (omega arith) (omega arith)) ∙ h)
 
 -- ---- store and copy, of which one gets byte b at an offset
 other : (l : List ℕ) (o b i : ℕ) → i ≢ o → getD l i 0 ≡ getD (set l o b) i 0
@@ -72,7 +71,7 @@ copy-elsewhere store copy o b h =
 
 module _ (store copy : List ℕ) (o b : ℕ) (h : isCustomer (regionOf o) ≡ true) where
   here : (l : List ℕ) → length l ≡ 256 → getD (set l o b) o 0 ≡ b
-  here l e = let r = range-true 119 166 o (sym (customer-is o) ∙ h) in getD-set-same l o b 0 (omega arith)
+  here l e = let r = customer-range o h in getD-set-same l o b 0 (omega arith)
 
   copy-set : length copy ≡ 256 → copied (countsOf store copy) (getD store o 0) (getD copy o 0) b ≡ countsOf store (set copy o b)
   copy-set e =
@@ -86,7 +85,7 @@ module _ (store copy : List ℕ) (o b : ℕ) (h : isCustomer (regionOf o) ≡ tr
       beside l = at-customer store l (set store o b) l o (λ i f. ap (λ (x : ℕ). differ x (getD l i 0)) (other store o b i f)) h
 
       zero : getD (zeros 256) o 0 ≡ 0
-      zero = let r = range-true 119 166 o (sym (customer-is o) ∙ h) in zeros-at 256 o 0 (omega arith)
+      zero = let r = customer-range o h in zeros-at 256 o 0 (omega arith)
 
 pub counts-kept : CountsKept
 counts-kept store copy s c =

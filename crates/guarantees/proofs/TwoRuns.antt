@@ -87,24 +87,19 @@ unsaved-count p image t cs e =
 abbrev startFrom : Fixed → List ℕ → Differing → Module
 startFrom f s d = started true noAlarms (withBytes s (zeros 256) d noJob (creation.fresh (f .port) s (f .thresholds)))
 
-clean-cut : (s : List ℕ) (w : Work) → tornStore s w Clean ≡ s
-clean-cut s work.Refused = refl
-clean-cut s work.Nothing = refl
-clean-cut s (work.Load due) = refl
-clean-cut s (work.Burn due) = refl
-
-clean-counts : (d : Differing) (s c : List ℕ) (w : Work) → differingCut d s c w Clean ≡ d
-clean-counts d s c work.Refused = refl
-clean-counts d s c work.Nothing = refl
-clean-counts d s c (work.Load due) = refl
-clean-counts d s c (work.Burn due) = refl
+-- a clean cut leaves store and counts
+clean-cut : (d : Differing) (s c : List ℕ) (w : Work) → (tornStore s w Clean ≡ s) × (differingCut d s c w Clean ≡ d)
+clean-cut d s c work.Refused = (refl, refl)
+clean-cut d s c work.Nothing = (refl, refl)
+clean-cut d s c (work.Load due) = (refl, refl)
+clean-cut d s c (work.Burn due) = (refl, refl)
 
 power-cycle : (m : Module) → run m (powerCycle m) ≡ startFrom (fixedOf m) (m .store) (m .differing)
 unfolding run step powerOn powerCut
 power-cycle m = go (m .powered) refl
   where
     go : (b : Bool) → m .powered ≡ b → run m (powerCycle m) ≡ startFrom (fixedOf m) (m .store) (m .differing)
-    go true e = let w = workOf true (m .job) in rw e (ap₂ (startFrom (fixedOf m)) (clean-cut (m .store) w) (clean-counts (m .differing) (m .store) (m .copy) w))
+    go true e = let k = clean-cut (m .differing) (m .store) (m .copy) (workOf true (m .job)) in rw e (ap₂ (startFrom (fixedOf m)) (k .0) (k .1))
     go false e = rw e
 
 run-append : (m : Module) (cs ds : List Call) → run m (cs ++ ds) ≡ run (run m cs) ds

@@ -8,8 +8,7 @@ use mathlib.Core.List.{List, [], _∷_}
 use mathlib.Core.Path.{_≡_, refl, sym, ap, _∙_, subst}
 use lib.Dec.{eqb}
 use lib.ListN.{length, getD, length-set}
-use Rattle.registers.proofs.Between.{in-range}
-use Rattle.nvr.proofs.Regions.{customer-is}
+use Rattle.nvr.proofs.Regions.{customer-is, range-customer}
 use Rattle.action.specs.declared.Action.the-variants as action
 use Rattle.jobs.specs.declared.Job.{Job}
 use Rattle.work.specs.Work.{workOf}
@@ -23,7 +22,7 @@ use Rattle.differing.specs.declared.Differing.{Differing}
 use Rattle.differing.proofs.Keeping.{alike, counts-kept}
 use Rattle.answers.specs.Answers.{Said, saidUnsaved, unsavedAnswer}
 use Rattle.xenpak.specs.declared.Module.{Module}
-use Rattle.guarantees.specs.Behaviour.{says, refused, differing, fullCount, unsavedSaid}
+use Rattle.guarantees.specs.Behaviour.{says, unsavedFrom, fullCount, unsavedSaid}
 use Rattle.guarantees.specs.Guarantees.{CountsUnsaved}
 use Rattle.guarantees.proofs.Transition.{JobSound, Reaction, Transition, unchanged, powering, cutting, resetting, ticking, lining, sampling, addressing, commanding, writing, controlling, reading}
 
@@ -40,7 +39,7 @@ module _ (s c : List ℕ) where
   abbrev at : ℕ → Bool
   at o = differ (getD s o 0) (getD c o 0)
 
-  from : (o n : ℕ) → howMany n (λ i. at (o + i)) ≡ differing c s o n
+  from : (o n : ℕ) → howMany n (λ i. at (o + i)) ≡ unsavedFrom c s o n
   from o zero = refl
   from o (suc n) =
       let e : o + 0 ≡ o = omega arith in
@@ -76,7 +75,7 @@ burns-customer j command h = go (eqb (j .kind) 0) (eqb (j .kind) 2) refl refl
     go true b p q = rw p tt
     go false true p q =
         let r : (119 ≤ j .due) × (j .due ≤ j .last) × (j .last ≤ 166) = rw (p, q) at (h .burns) in
-        rw (p, q) (customer-is (j .due) ∙ in-range 119 166 (j .due) (r .0) (omega arith))
+        rw (p, q) (range-customer (j .due) (r .0) (omega arith))
     go false false p q = rw (p, q) tt
 
 torn-length : (s : List ℕ) (w : Work) (cut : Cut) → length (tornStore s w cut) ≡ length s

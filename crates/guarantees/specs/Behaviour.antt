@@ -182,14 +182,15 @@ answersByModel m (c ∷ cs) =
 
 -- ---- how much is unsaved (document 02, P3)
 -- how many of n bytes, from an offset on, differ between copy and store
-abbrev pub differing : (copy store : List ℕ) → (offset n : ℕ) → ℕ
-differing c s o zero = 0
-differing c s o (suc n) = (if eqb (getD s o 0) (getD c o 0) then 0 else 1) + differing c s (o + 1) n
+abbrev pub unsavedFrom : (copy store : List ℕ) → (offset n : ℕ) → ℕ
+unsavedFrom c s o zero = 0
+unsavedFrom c s o (suc n) = (if eqb (getD s o 0) (getD c o 0) then 0 else 1) + unsavedFrom c s (o + 1) n
 
--- the full count, of the 48 customer bytes; 7 when off
+-- the full count: of the 48 customer bytes
 unfoldable pub fullCount : (copy store : List ℕ) → ℕ
-fullCount c s = differing c s 119 48
+fullCount c s = unsavedFrom c s 119 48
 
+-- 7 when off
 abbrev pub unsavedSaid : (powered : Bool) → (copy store : List ℕ) → Said
 unsavedSaid powered c s = if powered then says 1 (fullCount c s ∷ []) else refused 7
 

@@ -123,7 +123,7 @@ Demand3 = (port : ℕ) (image thresholds : List ℕ) (calls : List Call) → mak
     → TwoRuns port image thresholds (make port image thresholds .next) (make port (burned port image calls) thresholds .next) calls
 
 -- ---- document 02, P3: after every accepted making and every list of calls, the quick answer to how much is unsaved is the
--- full count of the record's copy and store, and 7 when it is off; by the model's copy and store it is that of `ByModel`
+-- full count of the record's own copy and store, and 7 when it is off. That it is the model's too says `seen-alike`
 abbrev pub CountsUnsaved : Module → Type 0
 CountsUnsaved m = saidUnsaved (unsavedOf m) ≡ unsavedSaid (m .powered) (m .copy) (m .store)
 
