@@ -74,8 +74,8 @@ enum name {
     FRAME, TICK, LINES, SAMPLE, SETTLE, RESET, CUT, CUT_TORN, POWER_ON, MAKE, LINE, COUNTER, STORED, TENTHS, UNSAVED
 };
 
-static const char *const names[] = {"frame",    "tick",     "lines", "sample", "settle",  "reset pin", "cut",
-                                    "cut torn", "power-on", "make",  "line",   "counter", "stored",    "tenths"};
+static const char *const names[] = {"frame",    "tick", "lines", "sample",  "settle", "reset pin", "cut",    "cut torn",
+                                    "power-on", "make", "line",  "counter", "stored", "tenths",    "unsaved"};
 
 /* A call with what it is given. `number` is a frame's word, a budget, a byte, a port, an offset or a code. */
 struct call {
@@ -103,7 +103,8 @@ static uint32_t answer(const struct version *v, struct xenpak_module *m, const s
     case LINE: return v->line(m);
     case COUNTER: return v->counter(m);
     case STORED: return v->stored(m, c->number);
-    default: return (uint16_t)v->tenths(c->number);
+    case TENTHS: return (uint16_t)v->tenths(c->number);
+    default: return v->unsaved(m);
     }
 }
 
@@ -204,12 +205,14 @@ static void nearly_full(void) {
     for (int v = 0; v < VERSIONS; v++) records[v].bus.counter |= 0xfff8;
 }
 
-/* Whether a version's answer, what it counts as unsaved or its record is another than the library's. Up to its last field a
+/* How much a version's record has unsaved. */
+static uint32_t unsaved(int v) { return versions[v].unsaved(&records[v]); }
+
+/* Whether a version's answer, what it has unsaved or its record is another than the library's. Up to its last field a
    record has no hole. */
 static bool differs(int v, const uint32_t *answers) {
     size_t whole = offsetof(struct xenpak_module, monitor.byte) + 1;
-    return answers[v] != answers[0] || versions[v].unsaved(&records[v]) != versions[0].unsaved(&records[0]) ||
-           memcmp(&records[v], &records[0], whole);
+    return answers[v] != answers[0] || unsaved(v) != unsaved(0) || memcmp(&records[v], &records[0], whole);
 }
 
 /* Reads out every temperature code: how often a version gives other tenths than the library. */
@@ -226,7 +229,7 @@ static unsigned long long readouts(void) {
 
 static int compare(unsigned long long calls, uint64_t seed) {
     static struct call c;
-    unsigned long long differences = 0, refused[256] = {0}, ticked[256] = {0}, framed[256] = {0}, unsaved[256] = {0};
+    unsigned long long differences = 0, refused[256] = {0}, ticked[256] = {0}, framed[256] = {0}, bytes[256] = {0};
     state = seed;
     some_making(&c);
     for (unsigned long long i = 0; i < calls; i++, some_call(&c, &records[0])) {
@@ -235,9 +238,9 @@ static int compare(unsigned long long calls, uint64_t seed) {
         for (int v = 0; v < VERSIONS; v++) answers[v] = answer(&versions[v], &records[v], &c);
         for (int v = 1; v < VERSIONS; v++)
             if (differs(v, answers) && differences++ < 10)
-                printf("call %llu, %s: library %08x, %s %08x\n", i, names[c.name], answers[0], versions[v].name,
-                       answers[v]);
-        if (records[0].powered) unsaved[XENPAK_VALUE(xenpak_unsaved(&records[0]))]++;
+                printf("call %llu, %s: library %08x, unsaved %08x; %s %08x, %08x\n", i, names[c.name], answers[0],
+                       unsaved(0), versions[v].name, answers[v], unsaved(v));
+        if (records[0].powered) bytes[XENPAK_BYTE(unsaved(0))]++;
         refused[XENPAK_REFUSAL(answers[0])]++;
         if (XENPAK_REFUSAL(answers[0])) continue;
         if (c.name == FRAME) framed[XENPAK_WHICH(answers[0])]++;
@@ -249,8 +252,8 @@ static int compare(unsigned long long calls, uint64_t seed) {
     printf("  ticks: nothing %llu, loaded %llu, burned %llu; refusals 1 to 8:", ticked[XENPAK_NOTHING],
            ticked[XENPAK_LOADED], ticked[XENPAK_BURNED]);
     for (int number = 1; number <= 8; number++) printf(" %llu", refused[number]);
-    for (int bytes = 2; bytes < 48; bytes++) unsaved[1] += unsaved[bytes];
-    printf("\n  unsaved after a call: no byte %llu, 1 to 47 %llu, all 48 %llu\n", unsaved[0], unsaved[1], unsaved[48]);
+    for (int n = 2; n < 48; n++) bytes[1] += bytes[n];
+    printf("\n  unsaved after a call: no byte %llu, 1 to 47 %llu, all 48 %llu\n", bytes[0], bytes[1], bytes[48]);
     return readouts() + differences != 0;
 }
 
@@ -264,14 +267,15 @@ struct timed {
     uint32_t word;
 };
 
-/* A call, the job's kind, the address register, the frame's word. The plain versions compare 48 bytes to count those that are
-   unsaved. */
+/* A call, the job's kind, the address register, the frame's word. */
 static const struct timed cases[] = {
     {"tick that loads", TICK, 1, 0, 0},
+    {"tick that burns", TICK, 2, 0, 0},
     {"tick with no job", TICK, 0, 0, 0},
     {"address frame", FRAME, 0, 0x9001, 0x00069001},
     {"control read (9001)", FRAME, 0, 0x9001, 0x30060000},
     {"read that clears (9003)", FRAME, 0, 0x9003, 0x30060000},
+    {"customer write (8080)", FRAME, 0, 0x8080, 0x100600aa},
     {"silent frame", FRAME, 0, 0x9001, 0x30860000},
     {"how much is unsaved", UNSAVED, 0, 0, 0},
     {"sample", SAMPLE, 0, 0, 0},
@@ -280,6 +284,9 @@ static const struct timed cases[] = {
 
 enum { CASES = sizeof cases / sizeof *cases, BATCH = 4000, ROUNDS = 5000, COUNTED = 2000 };
 
+/* Loads go through all offsets, burns through the customer bytes. */
+static uint8_t first_offset(const struct timed *t) { return t->kind == 2 ? 119 : 0; }
+
 static struct xenpak_module prepared(const struct timed *t) {
     struct xenpak_module m;
     memset(&m, 0, sizeof m);
@@ -287,7 +294,7 @@ static struct xenpak_module prepared(const struct timed *t) {
     for (int i = 0; i < 40; i++) m.thresholds[i] = i;
     m.differing = (struct xenpak_differing){.copy = 48, .zero = 48};
     m.powered = true;
-    m.job = (struct xenpak_job){.due = 0, .last = 255, .ended = 0, .kind = t->kind};
+    m.job = (struct xenpak_job){.due = first_offset(t), .last = t->kind == 2 ? 166 : 255, .ended = 0, .kind = t->kind};
     m.bus.address = t->address;
     return m;
 }
@@ -296,7 +303,7 @@ static uint32_t repeat(const struct version *v, const struct timed *t, uint32_t 
     _Alignas(64) struct xenpak_module m = prepared(t);
     uint32_t sum = 0;
     for (uint32_t i = 0; t->call == TICK && i < times; i++) {
-        if (m.job.due == 255) m.job.due = 0;
+        if (m.job.due == m.job.last) m.job.due = first_offset(t);
         sum += v->tick(&m);
     }
     for (uint32_t i = 0; t->call == FRAME && i < times; i++) sum += v->frame(&m, t->word);

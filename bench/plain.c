@@ -33,7 +33,7 @@ uint32_t plain_unsaved(const struct xenpak_module *m) {
     uint32_t bytes = 0;
     if (!m->powered) return refused(XENPAK_POWERED_OFF);
     for (int at = 119; at <= 166; at++) bytes += m->store[at] != m->copy[at];
-    return answer(XENPAK_BYTES, bytes);
+    return answer(XENPAK_UNSAVED, bytes);
 }
 
 /* ---- starts */

@@ -109,7 +109,7 @@ const DATA: u32 = 5 << 16;
 const NOTHING: u32 = 1 << 16;
 const LOADED: u32 = 2 << 16;
 const BURNED: u32 = 3 << 16;
-const BYTES: u32 = 1 << 16;
+const UNSAVED: u32 = 1 << 16;
 const OFF: u32 = 7 << 24;
 const ON: u32 = 8 << 24;
 const TEMPERATURE: u32 = 6 << 24;
@@ -508,7 +508,7 @@ pub extern "C" fn rust_unsaved(m: &Module) -> u32 {
         return OFF;
     }
     let bytes = m.copy[119..=166].iter().zip(&m.store[119..=166]);
-    BYTES | bytes.filter(|(copy, store)| copy != store).count() as u32
+    UNSAVED | bytes.filter(|(copy, store)| copy != store).count() as u32
 }
 
 #[no_mangle]

@@ -20,8 +20,8 @@ struct xenpak_job {
     uint8_t kind;
 };
 
-/* How many customer bytes of the store differ: from the copy, which are unsaved; from zero, which are unsaved once a start
-   has zeroed the copy. */
+/* How many customer bytes of the store differ: from the copy, which are unsaved; from zero, which are unsaved once a
+   start has zeroed the copy. */
 struct xenpak_differing {
     uint8_t copy;
     uint8_t zero;
@@ -139,7 +139,7 @@ enum xenpak_tick_answer { XENPAK_NOTHING = 1, XENPAK_LOADED, XENPAK_BURNED };
 
 enum xenpak_frame_answer { XENPAK_SILENT = 1, XENPAK_SET, XENPAK_WRITTEN, XENPAK_DROPPED, XENPAK_DATA };
 
-enum xenpak_unsaved_answer { XENPAK_BYTES = 1 };
+enum xenpak_unsaved_answer { XENPAK_UNSAVED = 1 };
 
 /* ---- on a lent record, updated there */
 
@@ -153,8 +153,8 @@ uint32_t xenpak_frame(struct xenpak_module *m, uint32_t word);
 
 /* ---- on a lent record, left as it is */
 
-/* How many of the 48 customer bytes differ between copy and store: bytes, with their count. The record keeps it; no byte is
-   compared.
+/* How many of the 48 customer bytes differ between copy and store: unsaved, with the count. The record keeps it; no
+   byte is compared.
    Refused with 7 when off. */
 uint32_t xenpak_unsaved(const struct xenpak_module *m);
 
