@@ -20,14 +20,10 @@ use Rattle.store.specs.Bytes.{loadedCopy, burnedStore, tornStore, writtenCopy, 
 use Rattle.store.specs.declared.Cut.{Cut}
 use Rattle.store.specs.declared.Cut.the-variants.{Clean, Torn}
 use Rattle.store.proofs.Zeros.{zeros-at}
-use Rattle.differing.specs.Differing.{differing, differ, one, howMany, differences, countsOf, recount, copied, stored, differingTicked, differingCut, differingAfter, BurnsCustomer, WritesCustomer, CountsKept}
-use Rattle.differing.proofs.Counting.{bit, differAt}
+use Rattle.differing.specs.Differing.{differing, differ, one, howMany, differAt, differences, countsOf, recount, copied, stored, differingTicked, differingCut, differingAfter, BurnsCustomer, WritesCustomer, CountsKept}
+use Rattle.differing.proofs.Counting.{bit, at-most}
 
 -- ---- a count when one of what is counted changes
-at-most : (n : ℕ) (p : ℕ → Bool) → howMany n p ≤ n
-at-most zero p = omega arith
-at-most (suc n) p = omega (arith, at-most n p, bit (p n))
-
 pub alike : (n : ℕ) (p q : ℕ → Bool) → ((i : ℕ) → i < n → p i ≡ q i) → howMany n p ≡ howMany n q
 alike zero p q e = refl
 alike (suc n) p q e = λ j. alike n p q (λ i h. e i (omega arith)) j + one (e n (omega arith) j)
@@ -46,17 +42,17 @@ module _ (p q : ℕ → Bool) (k : ℕ) (same : (i : ℕ) → i ≢ k → p i �
   changed n s h = omega (arith, above n h, at-most n q, bit (p k), bit (q k))
 
 -- ---- counts of bytes, of which those at one offset change
-module _ (a b a′ b′ : List ℕ) (o : ℕ) (same : (i : ℕ) → i ≢ o → differ (getD a i 0) (getD b i 0) ≡ differ (getD a′ i 0) (getD b′ i 0)) where
-  at-customer : isCustomer (regionOf o) ≡ true → recount (differences a b) (differ (getD a o 0) (getD b o 0)) (differ (getD a′ o 0) (getD b′ o 0)) ≡ differences a′ b′
+module _ (a b a′ b′ : List ℕ) (o : ℕ) (same : (i : ℕ) → i ≢ o → differAt a b i ≡ differAt a′ b′ i) where
+  at-customer : isCustomer (regionOf o) ≡ true → recount (differences a b) (differAt a b o) (differAt a′ b′ o) ≡ differences a′ b′
   unfolding differences
   at-customer h =
       let r = customer-range o h in
       let at : 119 + (o - 119) ≡ o = omega arith in
-      rw at at (changed (differAt a b) (differAt a′ b′) (o - 119) (λ i f. same (119 + i) (λ e. f (omega arith))) 48 (omega arith) (omega arith))
+      rw at at (changed (λ i. differAt a b (119 + i)) (λ i. differAt a′ b′ (119 + i)) (o - 119) (λ i f. same (119 + i) (λ e. f (omega arith))) 48 (omega arith) (omega arith))
 
   elsewhere : isCustomer (regionOf o) ≡ false → differences a b ≡ differences a′ b′
   unfolding differences
-  elsewhere h = alike 48 (differAt a b) (differAt a′ b′) (λ i l. same (119 + i) (λ e. apart i l e))
+  elsewhere h = alike 48 (λ i. differAt a b (119 + i)) (λ i. differAt a′ b′ (119 + i)) (λ i l. same (119 + i) (λ e. apart i l e))
     where
       apart : (i : ℕ) → i < 48 → 119 + i ≢ o
       apart i l e = true≢false (sym (range-customer o (omega arith) (omega arith)) ∙ h)
@@ -79,13 +75,13 @@ module _ (store copy : List ℕ) (o b : ℕ) (h : isCustomer (regionOf o) ≡ tr
       (rw (here copy e) at (at-customer store copy store (set copy o b) o (λ i f. ap (differ (getD store i 0)) (other copy o b i f)) h))
 
   store-set : length store ≡ 256 → stored (countsOf store copy) (getD store o 0) (getD copy o 0) b ≡ countsOf (set store o b) copy
-  store-set e = ap₂ differing (rw (here store e) at (beside copy)) (rw (here store e, zero) at (beside (zeros 256)))
+  store-set e = ap₂ differing (rw (here store e) at (beside copy)) (rw (here store e, zeros-here) at (beside (zeros 256)))
     where
-      beside : (l : List ℕ) → recount (differences store l) (differ (getD store o 0) (getD l o 0)) (differ (getD (set store o b) o 0) (getD l o 0)) ≡ differences (set store o b) l
+      beside : (l : List ℕ) → recount (differences store l) (differAt store l o) (differAt (set store o b) l o) ≡ differences (set store o b) l
       beside l = at-customer store l (set store o b) l o (λ i f. ap (λ (x : ℕ). differ x (getD l i 0)) (other store o b i f)) h
 
-      zero : getD (zeros 256) o 0 ≡ 0
-      zero = let r = customer-range o h in zeros-at 256 o 0 (omega arith)
+      zeros-here : getD (zeros 256) o 0 ≡ 0
+      zeros-here = let r = customer-range o h in zeros-at 256 o 0 (omega arith)
 
 pub counts-kept : CountsKept
 counts-kept store copy s c =

@@ -33,9 +33,13 @@ abbrev pub howMany : ℕ → (ℕ → Bool) → ℕ
 howMany zero p = 0
 howMany (suc n) p = howMany n p + one (p n)
 
+-- whether the bytes at an offset differ
+abbrev pub differAt : List ℕ → List ℕ → (offset : ℕ) → Bool
+differAt a b o = differ (getD a o 0) (getD b o 0)
+
 -- how many of the 48 customer bytes, from offset 119 on, differ: of copy and store the full count (document 02)
 unfoldable pub differences : List ℕ → List ℕ → ℕ
-differences a b = howMany 48 (λ i. differ (getD a (119 + i) 0) (getD b (119 + i) 0))
+differences a b = howMany 48 (λ i. differAt a b (119 + i))
 
 -- of the store: from the copy, from zero
 abbrev pub countsOf : (store copy : List ℕ) → Differing

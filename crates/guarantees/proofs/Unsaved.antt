@@ -17,7 +17,7 @@ use Rattle.work.specs.declared.Work.the-variants as work
 use Rattle.store.specs.Bytes.{loadedCopy, burnedStore, tornStore, zeros}
 use Rattle.store.specs.declared.Cut.{Cut}
 use Rattle.store.specs.declared.Cut.the-variants.{Clean, Torn}
-use Rattle.differing.specs.Differing.{differ, one, howMany, differences, countsOf, differingStarted, differingTicked, differingCut, differingAfter, BurnsCustomer, Kept}
+use Rattle.differing.specs.Differing.{one, howMany, differAt, differences, countsOf, differingStarted, differingTicked, differingCut, differingAfter, BurnsCustomer, Kept}
 use Rattle.differing.specs.declared.Differing.{Differing}
 use Rattle.differing.proofs.Keeping.{alike, counts-kept}
 use Rattle.answers.specs.Answers.{Said, saidUnsaved, unsavedAnswer}
@@ -26,7 +26,7 @@ use Rattle.guarantees.specs.Behaviour.{says, unsavedFrom, fullCount, uns
 use Rattle.guarantees.specs.Guarantees.{CountsUnsaved}
 use Rattle.guarantees.proofs.Transition.{JobSound, Reaction, Transition, unchanged, powering, cutting, resetting, ticking, lining, sampling, addressing, commanding, writing, controlling, reading}
 
--- ---- the code's count, from the last byte down, is the model's, from the first on
+-- ---- the count as it is defined for the code, from the last byte down, is the model's, from the first on
 front : (n : ℕ) (p : ℕ → Bool) → howMany (suc n) p ≡ one (p 0) + howMany n (λ i. p (suc i))
 front zero p = omega arith
 front (suc n) p = omega (arith, front n p)
@@ -36,15 +36,12 @@ one-not true = refl
 one-not false = refl
 
 module _ (s c : List ℕ) where
-  abbrev at : ℕ → Bool
-  at o = differ (getD s o 0) (getD c o 0)
-
-  from : (o n : ℕ) → howMany n (λ i. at (o + i)) ≡ unsavedFrom c s o n
+  from : (o n : ℕ) → howMany n (λ i. differAt s c (o + i)) ≡ unsavedFrom c s o n
   from o zero = refl
   from o (suc n) =
       let e : o + 0 ≡ o = omega arith in
-      front n (λ i. at (o + i))
-      ∙ (λ j. one (at (e j)) + alike n (λ i. at (o + suc i)) (λ i. at (o + 1 + i)) (λ i h. let d : o + suc i ≡ o + 1 + i = omega arith in ap at d) j)
+      front n (λ i. differAt s c (o + i))
+      ∙ (λ j. one (differAt s c (e j)) + alike n (λ i. differAt s c (o + suc i)) (λ i. differAt s c (o + 1 + i)) (λ i h. let d : o + suc i ≡ o + 1 + i = omega arith in ap (differAt s c) d) j)
       ∙ (λ j. one-not (eqb (getD s o 0) (getD c o 0)) j + from (o + 1) n j)
 
   full-is : differences s c ≡ fullCount c s
