@@ -133,9 +133,21 @@ static uint32_t some_address(void) {
     return first[i] + below(many[i]);
 }
 
+/* A byte for an offset: often zero, the store's or the copy's. */
+static uint8_t some_byte(const struct xenpak_module *m, uint8_t at) {
+    switch (below(6)) {
+    case 0: return 0;
+    case 1: return m->store[at];
+    case 2: return m->copy[at];
+    default: return below(256);
+    }
+}
+
 /* Mostly a frame for this module, and seldom a reset. */
 static uint32_t some_frame(const struct xenpak_module *m) {
     uint32_t operation = below(4), data = operation == 0 ? some_address() : word16();
+    if (operation == 1 && m->bus.address - 0x807eu < 48)
+        data = (data & 0xff00) | some_byte(m, m->bus.address - 0x8007);
     if (operation == 1 && m->bus.address == 0 && !one_in(16)) data &= 0x7fff;
     uint32_t frame = operation << 28 | (uint32_t)m->port << 23 | 1 << 18 | 2 << 16 | data;
     switch (below(16)) {
@@ -182,13 +194,14 @@ static void some_making(struct call *c) {
 }
 
 static void some_call(struct call *c, const struct xenpak_module *m) {
-    static const uint16_t until[] = {700, 850, 890, 940, 950, 952, 954, 957, 965, 966, 985, 990, 995, 1000};
+    static const uint16_t until[] = {700, 850, 890, 940, 950, 952, 954, 957, 965, 966, 985, 990, 995, 998, 1000};
     uint32_t chance = below(1000);
     c->name = FRAME;
     while (chance >= until[c->name]) c->name++;
     if (!m->powered && one_in(8)) c->name = POWER_ON;
     c->number = word16() << 16 | word16();
     if (c->name == FRAME) c->number = some_frame(m);
+    if (c->name == CUT_TORN) c->number = some_byte(m, m->job.due);
     if (c->name == SETTLE && one_in(2)) c->number = below(300);
     if (c->name == LINES) c->lines = (struct xenpak_lines){word16(), word16(), !one_in(8), !one_in(8), !one_in(8)};
     if (c->name == SAMPLE)
@@ -208,11 +221,20 @@ static void nearly_full(void) {
 /* How much a version's record has unsaved. */
 static uint32_t unsaved(int v) { return versions[v].unsaved(&records[v]); }
 
-/* Whether a version's answer, what it has unsaved or its record is another than the library's. Up to its last field a
-   record has no hole. */
+/* Up to its last field a record has no hole. */
+enum { WHOLE = offsetof(struct xenpak_module, monitor.byte) + 1 };
+
+/* Whether a version's answer, what it has unsaved or its record is another than the library's. */
 static bool differs(int v, const uint32_t *answers) {
-    size_t whole = offsetof(struct xenpak_module, monitor.byte) + 1;
-    return answers[v] != answers[0] || unsaved(v) != unsaved(0) || memcmp(&records[v], &records[0], whole);
+    return answers[v] != answers[0] || unsaved(v) != unsaved(0) || memcmp(&records[v], &records[0], WHOLE);
+}
+
+/* The first byte of a version's record that is another than the library's; WHOLE where none is. */
+static int differing_byte(int v) {
+    const uint8_t *a = (const uint8_t *)&records[v], *b = (const uint8_t *)&records[0];
+    int at = 0;
+    while (at < WHOLE && a[at] == b[at]) at++;
+    return at;
 }
 
 /* Reads out every temperature code: how often a version gives other tenths than the library. */
@@ -238,8 +260,9 @@ static int compare(unsigned long long calls, uint64_t seed) {
         for (int v = 0; v < VERSIONS; v++) answers[v] = answer(&versions[v], &records[v], &c);
         for (int v = 1; v < VERSIONS; v++)
             if (differs(v, answers) && differences++ < 10)
-                printf("call %llu, %s: library %08x, unsaved %08x; %s %08x, %08x\n", i, names[c.name], answers[0],
-                       unsaved(0), versions[v].name, answers[v], unsaved(v));
+                printf("call %llu, %s: library %08x, unsaved %08x; %s %08x, %08x; records alike up to byte %d of %d\n",
+                       i, names[c.name], answers[0], unsaved(0), versions[v].name, answers[v], unsaved(v),
+                       differing_byte(v), WHOLE);
         if (records[0].powered) bytes[XENPAK_BYTE(unsaved(0))]++;
         refused[XENPAK_REFUSAL(answers[0])]++;
         if (XENPAK_REFUSAL(answers[0])) continue;
