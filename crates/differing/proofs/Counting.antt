@@ -1,5 +1,5 @@
--- Counting: a bool as a number, no more counted than there are, and the loop that counts the customer bytes of a store that are
--- not zero.
+-- Counting: a bool as a number, no more counted than there are, and the loop that counts the customer bytes of a store
+-- that are not zero.
 -- Assumes nothing.
 use Prim.Native.Nat.{ℕ, zero, suc, _+_, _≤_, _<_}
 use native.Mathlib.Numerals.{add-one}
