@@ -69,12 +69,12 @@ module _ (store copy : List ℕ) (o b : ℕ) (h : isCustomer (regionOf o) ≡ tr
   here : (l : List ℕ) → length l ≡ 256 → getD (set l o b) o 0 ≡ b
   here l e = let r = customer-range o h in getD-set-same l o b 0 (omega arith)
 
-  copy-set : length copy ≡ 256 → copied (countsOf store copy) (getD store o 0) (getD copy o 0) b ≡ countsOf store (set copy o b)
+  copy-set : length copy ≡ 256 → copied (countsOf store copy) store copy o b ≡ countsOf store (set copy o b)
   copy-set e =
       ap (λ (n : ℕ). differing n (differences store (zeros 256)))
       (rw (here copy e) at (at-customer store copy store (set copy o b) o (λ i f. ap (differ (getD store i 0)) (other copy o b i f)) h))
 
-  store-set : length store ≡ 256 → stored (countsOf store copy) (getD store o 0) (getD copy o 0) b ≡ countsOf (set store o b) copy
+  store-set : length store ≡ 256 → stored (countsOf store copy) store copy o b ≡ countsOf (set store o b) copy
   store-set e = ap₂ differing (rw (here store e) at (beside copy)) (rw (here store e, zeros-here) at (beside (zeros 256)))
     where
       beside : (l : List ℕ) → recount (differences store l) (differAt store l o) (differAt (set store o b) l o) ≡ differences (set store o b) l
@@ -98,7 +98,7 @@ counts-kept store copy s c =
     ticks (Load due) h = loads (isCustomer (regionOf due)) refl
       where
         loads : (b : Bool) → isCustomer (regionOf due) ≡ b
-            → cond b (copied (countsOf store copy) (getD store due 0) (getD copy due 0) (getD store due 0)) (countsOf store copy) ≡ countsOf store (set copy due (getD store due 0))
+            → cond b (copied (countsOf store copy) store copy due (getD store due 0)) (countsOf store copy) ≡ countsOf store (set copy due (getD store due 0))
         loads true e = copy-set store copy due (getD store due 0) e c
         loads false e = copy-elsewhere store copy due (getD store due 0) e
     ticks (Burn due) h = store-set store copy due (getD copy due 0) h s

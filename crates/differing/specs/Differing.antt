@@ -50,29 +50,34 @@ countsOf store copy = differing (differences store copy) (differences store (zer
 abbrev pub recount : ℕ → (was is : Bool) → ℕ
 recount n was is = (n + 256 + one is - one was) % 256
 
--- where the store has s and the copy c, the copy gets b
-abbrev pub copied : Differing → (s c b : ℕ) → Differing
-copied d s c b = differing (recount (d .copy) (differ s c) (differ s b)) (d .zero)
+-- the copy gets a byte at an offset
+abbrev pub copied : Differing → (store copy : List ℕ) → (offset byte : ℕ) → Differing
+copied d store copy o b = differing (recount (d .copy) (differAt store copy o) (differ (getD store o 0) b)) (d .zero)
 
--- the store gets b
-abbrev pub stored : Differing → (s c b : ℕ) → Differing
-stored d s c b = differing (recount (d .copy) (differ s c) (differ b c)) (recount (d .zero) (differ s 0) (differ b 0))
+-- the store gets it
+abbrev pub stored : Differing → (store copy : List ℕ) → (offset byte : ℕ) → Differing
+stored d store copy o b =
+    differing (recount (d .copy) (differAt store copy o) (differ b (getD copy o 0)))
+    (recount (d .zero) (differ (getD store o 0) 0) (differ b 0))
+
+-- a load puts store into copy: of all offsets, of which only a customer byte counts
+abbrev pub loaded : Differing → (store copy : List ℕ) → (due : ℕ) → Differing
+loaded d store copy due = cond (isCustomer (regionOf due)) (copied d store copy due (getD store due 0)) d
 
 -- a start zeroes the copy: as many bytes of the store differ from it then as from zero
 abbrev pub differingStarted : Differing → Differing
 differingStarted d = differing (d .zero) (d .zero)
 
--- after a tick: a load puts store into copy, of any byte; a burn puts copy into store, of a customer byte
+-- after a tick: a load, or a burn, which puts copy into store
 abbrev pub differingTicked : Differing → List ℕ → List ℕ → Work → Differing
 differingTicked d store copy Refused = d
 differingTicked d store copy Nothing = d
-differingTicked d store copy (Load due) =
-    cond (isCustomer (regionOf due)) (copied d (getD store due 0) (getD copy due 0) (getD store due 0)) d
-differingTicked d store copy (Burn due) = stored d (getD store due 0) (getD copy due 0) (getD copy due 0)
+differingTicked d store copy (Load due) = loaded d store copy due
+differingTicked d store copy (Burn due) = stored d store copy due (getD copy due 0)
 
 abbrev pub differingTorn : Differing → List ℕ → List ℕ → ℕ → Cut → Differing
 differingTorn d store copy due Clean = d
-differingTorn d store copy due (Torn byte) = stored d (getD store due 0) (getD copy due 0) byte
+differingTorn d store copy due (Torn byte) = stored d store copy due byte
 
 -- after a cut: torn (document 01: struck) while a burn is due, its byte goes into the store there
 abbrev pub differingCut : Differing → List ℕ → List ℕ → Work → Cut → Differing
@@ -89,7 +94,7 @@ differingAfter d store copy (action.SetAddress a) = d
 differingAfter d store copy action.Dropped = d
 differingAfter d store copy action.Reset = differingStarted d
 differingAfter d store copy (action.Command word) = d
-differingAfter d store copy (action.Customer offset byte) = copied d (getD store offset 0) (getD copy offset 0) byte
+differingAfter d store copy (action.Customer offset byte) = copied d store copy offset byte
 differingAfter d store copy (action.Control i word) = d
 differingAfter d store copy (action.Read r increment) = d
 

@@ -1,10 +1,11 @@
 // How many customer bytes of the store differ from the copy, and from zero, kept when a byte of store or copy changes.
 ghost use mathlib.Core.Path.{_≡_};
 ghost use Rattle.store.specs.Bytes.{zeros};
-ghost use Rattle.differing.specs.Differing.{differ, countsOf, recount, copied, stored, differingStarted, differingTicked, differingCut, differingAfter};
+ghost use Rattle.differing.specs.Differing.{differ, countsOf, recount, copied, stored, loaded, differingStarted, differingTicked, differingCut, differingAfter};
 use action::Action;
 use nvr::image::Region;
 use store::Cut;
+use store::byte_at;
 use work::Work;
 
 // The first customer byte, and how many there are.
@@ -57,23 +58,38 @@ impl Differing {
         }
     }
 
-    // Where the store has s and the copy c, the copy gets b.
-    fn copied(self, s: u8, c: u8, b: u8) -> Differing
-        ensures { λ r. ⌜ r ≡ copied self s c b ⌝ }
+    // When the copy gets a byte at an offset.
+    fn copied(self, store: &[u8; 256], copy: &[u8; 256], offset: u8, byte: u8) -> Differing
+        ensures { λ r. ⌜ r ≡ copied self (now (store .entry)) (now (copy .entry)) offset byte ⌝ }
     {
+        let s = byte_at(store, offset);
+        let c = byte_at(copy, offset);
         Differing {
-            copy: recount(self.copy, differ(s, c), differ(s, b)),
+            copy: recount(self.copy, differ(s, c), differ(s, byte)),
             zero: self.zero,
         }
     }
 
-    // The store gets b.
-    fn stored(self, s: u8, c: u8, b: u8) -> Differing
-        ensures { λ r. ⌜ r ≡ stored self s c b ⌝ }
+    // When the store gets it.
+    fn stored(self, store: &[u8; 256], copy: &[u8; 256], offset: u8, byte: u8) -> Differing
+        ensures { λ r. ⌜ r ≡ stored self (now (store .entry)) (now (copy .entry)) offset byte ⌝ }
     {
+        let s = byte_at(store, offset);
+        let c = byte_at(copy, offset);
         Differing {
-            copy: recount(self.copy, differ(s, c), differ(b, c)),
-            zero: recount(self.zero, differ(s, 0), differ(b, 0)),
+            copy: recount(self.copy, differ(s, c), differ(byte, c)),
+            zero: recount(self.zero, differ(s, 0), differ(byte, 0)),
+        }
+    }
+
+    // When a load puts store into copy: it goes through all offsets, and only a customer byte counts.
+    fn loaded(self, store: &[u8; 256], copy: &[u8; 256], due: u8) -> Differing
+        ensures { λ r. ⌜ r ≡ loaded self (now (store .entry)) (now (copy .entry)) due ⌝ }
+    {
+        if Region::of(due).is_customer() {
+            self.copied(store, copy, due, byte_at(store, due))
+        } else {
+            self
         }
     }
 
@@ -84,18 +100,8 @@ impl Differing {
         match work {
             Work::Refused => self,
             Work::Nothing => self,
-            Work::Load(due) => {
-                let at = due as usize;
-                if Region::of(due).is_customer() {
-                    self.copied(store[at], copy[at], store[at])
-                } else {
-                    self
-                }
-            }
-            Work::Burn(due) => {
-                let at = due as usize;
-                self.stored(store[at], copy[at], copy[at])
-            }
+            Work::Load(due) => self.loaded(store, copy, due),
+            Work::Burn(due) => self.stored(store, copy, due, byte_at(copy, due)),
         }
     }
 
@@ -109,10 +115,7 @@ impl Differing {
             Work::Load(_) => self,
             Work::Burn(due) => match cut {
                 Cut::Clean => self,
-                Cut::Torn(byte) => {
-                    let at = due as usize;
-                    self.stored(store[at], copy[at], byte)
-                }
+                Cut::Torn(byte) => self.stored(store, copy, due, byte),
             },
         }
     }
@@ -123,10 +126,7 @@ impl Differing {
     {
         match action {
             Action::Reset => self.started(),
-            Action::Customer(offset, byte) => {
-                let at = offset as usize;
-                self.copied(store[at], copy[at], byte)
-            }
+            Action::Customer(offset, byte) => self.copied(store, copy, offset, byte),
             _ => self,
         }
     }

@@ -11,4 +11,6 @@ copied-spec =
     (λ c κs. search needs)
     (λ c κs. search needs)
     (λ c κs. search needs)
-    (λ c. rw (c .recount .ensures, c .before .differ2 .ensures, c .before .before .differ .ensures)))
+    (λ c κs. search needs)
+    (λ c κs. search needs)
+    (λ c. rw (c .recount .ensures, c .before .differ2 .ensures, c .before .before .differ .ensures, c .before .before .before .byte-at2 .ensures, c .before .before .before .before .byte-at .ensures)))

@@ -14,4 +14,6 @@ stored-spec =
     (λ c κs. search needs)
     (λ c κs. search needs)
     (λ c κs. search needs)
-    (λ c. rw (c .recount2 .ensures, c .before .differ4 .ensures, c .before .before .differ3 .ensures, c .before .before .before .recount .ensures, c .before .before .before .before .differ2 .ensures, c .before .before .before .before .before .differ .ensures)))
+    (λ c κs. search needs)
+    (λ c κs. search needs)
+    (λ c. rw (c .recount2 .ensures, c .before .differ4 .ensures, c .before .before .differ3 .ensures, c .before .before .before .recount .ensures, c .before .before .before .before .differ2 .ensures, c .before .before .before .before .before .differ .ensures, c .before .before .before .before .before .before .byte-at2 .ensures, c .before .before .before .before .before .before .before .byte-at .ensures)))
