@@ -1,4 +1,6 @@
 // What a frame asks of the module's parts, decided once.
+#![tactic(auto)]
+
 ghost use Rattle.std.specs.Prelude.{◌≡◌};
 ghost use Rattle.action.specs.Action.{when, write_to, request_action, action_of};
 

@@ -1,4 +1,6 @@
 // Alarm and flag latches, the link and the controls: what frames, starts, lines and samples do to them.
+#![tactic(auto)]
+
 ghost use Rattle.std.specs.Prelude.{◌≡◌};
 ghost use Rattle.alarms.specs.Alarms.{differ, status_cleared, flags_cleared, after_read, restarted, controlled, alarms_after, after_lines, after_sample};
 

@@ -1,4 +1,6 @@
 // What each call answers.
+#![tactic(auto)]
+
 ghost use Rattle.std.specs.Prelude.{◌≡◌};
 ghost use Rattle.answers.specs.Answers.{refusal_number, creation_answer, power_on_answer, call_answer, frame_answer, unsaved_answer};
 

@@ -1,4 +1,6 @@
 // The address register, and the count of data answers.
+#![tactic(auto)]
+
 ghost use Rattle.std.specs.Prelude.{◌≡◌};
 ghost use Rattle.bus.specs.Bus.{one_more, next_address, bus_read, bus_after};
 

@@ -1,4 +1,6 @@
 // Any call of the lists that a module may live through, with its arguments.
+#![tactic(auto)]
+
 ghost use Rattle.std.specs.Prelude.{◌≡◌};
 ghost use Rattle.calls.specs.Calls.{plain, framed, ticked, step};
 

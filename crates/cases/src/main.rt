@@ -1,4 +1,6 @@
 // Plays a bench sheet from standard input on the core, and writes it again with what each step gave.
+#![tactic(auto)]
+
 mod bench;
 mod play;
 mod print;

@@ -1,4 +1,6 @@
 // The alarm controls: which alarms are enabled.
+#![tactic(auto)]
+
 ghost use Rattle.std.specs.Prelude.{◌≡◌};
 ghost use Rattle.controls.specs.Controls.{control_written, control_at};
 

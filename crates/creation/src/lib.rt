@@ -1,4 +1,6 @@
 // Making a module from its port, image and thresholds.
+#![tactic(auto)]
+
 ghost use Rattle.std.specs.Prelude.{◌≡◌};
 ghost use Rattle.xenpak.specs.Calls.{taken};
 ghost use Rattle.creation.specs.Creation.{Copied, fresh, blank, make};

@@ -1,4 +1,6 @@
 // How many customer bytes of the store differ from the copy, and from zero, kept when a byte of store or copy changes.
+#![tactic(auto)]
+
 ghost use Rattle.std.specs.Prelude.{◌≡◌};
 ghost use Rattle.store.specs.Bytes.{zeros};
 ghost use Rattle.differing.specs.Differing.{differ, counts_of, recount, copied, stored, loaded, differing_started, differing_ticked, differing_cut, differing_after};

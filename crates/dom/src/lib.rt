@@ -1,4 +1,6 @@
 // Digital optical monitoring (DOM): samples and their codes, and the temperature readout.
+#![tactic(auto)]
+
 ghost use Rattle.std.specs.Prelude.{◌≡◌};
 ghost use Rattle.dom.specs.Codes.{signed_code, acceptable};
 

@@ -1,5 +1,7 @@
 // Plays recordings whole, each on a blank module of its own, and holds the printed lines to a file: its arguments name a
 // recording and that file, and so on.
+#![tactic(auto)]
+
 ghost use Rattle.io.specs.Counts.{IsPrefixLen};
 
 use libc::STDOUT_FILENO;

@@ -1,4 +1,6 @@
 // A module for firmware: tick and frame over a lent record, updated there, how much of one is unsaved, and every call for C.
+#![tactic(auto)]
+
 ghost use Rattle.std.specs.Prelude.{◌≡◌, ◌+◌, ◌*◌};
 ghost use Rattle.answers.specs.Answers.{said_tick, said_frame, said_unsaved};
 ghost use Rattle.xenpak.specs.Calls.{tick};

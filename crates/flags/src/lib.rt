@@ -1,4 +1,6 @@
 // The alarm and warning flags of a sample.
+#![tactic(auto)]
+
 ghost use Rattle.std.specs.Prelude.{◌≡◌, ◌≤◌};
 ghost use Rattle.words.specs.Words.{of_bits};
 ghost use Rattle.flags.specs.Flags.{columns, codes_of, above, below, crossed, tx_bits, rx_bits, flags_of};

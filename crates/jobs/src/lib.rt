@@ -1,4 +1,6 @@
 // Register 8000, and the job that a command starts there: a load or a burn, one byte a tick.
+#![tactic(auto)]
+
 ghost use Rattle.std.specs.Prelude.{◌≡◌};
 ghost use Rattle.jobs.specs.Job.{command_job, is_busy, status_of, word_of, pma_word, after_read, job_after, command_after};
 

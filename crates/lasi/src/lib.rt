@@ -1,4 +1,6 @@
 // What the alarm registers read, and the link status alarm interrupt (LASI), the alarm line.
+#![tactic(auto)]
+
 ghost use Rattle.std.specs.Prelude.{◌≡◌, [], ◌∷◌};
 ghost use Rattle.words.specs.Words.{of_bits};
 ghost use Rattle.lasi.specs.Lasi.{rx_alarm, tx_alarm, lasi_status, alarm_line, status_at, flags_at};

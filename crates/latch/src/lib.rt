@@ -1,4 +1,6 @@
 // A latch: what six alarm registers are made of.
+#![tactic(auto)]
+
 ghost use Rattle.std.specs.Prelude.{◌≡◌};
 ghost use Rattle.latch.specs.Latch.{fed, cleared, latched};
 

@@ -1,4 +1,6 @@
 // The 32-bit frame of IEEE 802.3 Clause 45, and what it asks of the module at a port.
+#![tactic(auto)]
+
 ghost use Rattle.std.specs.Prelude.{◌≡◌};
 ghost use Rattle.mdio.specs.Frame.{frame_of, reaches, turned, asked, request_of};
 

@@ -1,4 +1,6 @@
 // Digital optical monitoring (DOM): the last sample, and the low byte that a read of a high byte holds.
+#![tactic(auto)]
+
 ghost use Rattle.std.specs.Prelude.{◌≡◌};
 ghost use Rattle.monitor.specs.Monitor.{bits_of, code_in, holds, byte_of, value_of, holding, forgetting, after_sample_read, after_read, monitor_after, sampled_monitor};
 

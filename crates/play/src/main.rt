@@ -1,4 +1,6 @@
 // Plays a bench recording from standard input on the blank module, and prints a line for each record.
+#![tactic(auto)]
+
 ghost use Rattle.std.specs.Prelude.{◌≡◌, ◌/◌, ◌≤◌, length, take};
 ghost use Rattle.printout.specs.Line.{longest};
 ghost use Rattle.play.specs.Turn.{Played, Turned};

@@ -1,4 +1,6 @@
 // Plays a bench recording on a module: one record at a time, or a block of them with their lines as text.
+#![tactic(auto)]
+
 ghost use Rattle.std.specs.Prelude.{◌≡◌, ◌/◌, min, length};
 ghost use Rattle.creation.specs.Creation.{blank};
 ghost use Rattle.printout.specs.Line.{longest};

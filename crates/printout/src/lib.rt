@@ -1,4 +1,6 @@
 // A line of a play, as text: index, kind, refusal and alarm line.
+#![tactic(auto)]
+
 ghost use Rattle.std.specs.Prelude.{◌≡◌, [], ◌∷◌, ◌+◌, ◌≤◌, ◌<◌, length};
 ghost use Rattle.io.specs.Digits.{hex_digit_ascii};
 ghost use Rattle.printout.specs.Line.{space, decimal, kind_text, refusal_text, alarm_digit, line_text, Put, Written};

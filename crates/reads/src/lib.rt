@@ -1,4 +1,6 @@
 // What can be read from the record, at any time and without refusal; and how much is unsaved, which needs power.
+#![tactic(auto)]
+
 ghost use Rattle.std.specs.Prelude.{◌≡◌};
 ghost use Rattle.reads.specs.Reads.{line_of, counter_of, stored_at, unsaved_of};
 

@@ -1,4 +1,6 @@
 // A bench recording's bytes as calls: a record is one byte of kind, then a body, whose numbers come high byte first.
+#![tactic(auto)]
+
 ghost use Rattle.std.specs.Prelude.{true, ◌≡◌, ◌+◌, ◌≤◌, length};
 ghost use Rattle.recording.specs.Recording.{known, body_length, word, frame_of, sample_of, lines_of, call_of, item_at};
 

@@ -1,4 +1,6 @@
 // The register map of device 1.
+#![tactic(auto)]
+
 ghost use Rattle.std.specs.Prelude.{◌≡◌};
 ghost use Rattle.registers.specs.Map.{register_at};
 

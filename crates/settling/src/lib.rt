@@ -1,4 +1,6 @@
 // Settling: ticks until no job is due or the budget is spent.
+#![tactic(auto)]
+
 ghost use Rattle.std.specs.Prelude.{◌≡◌, true};
 ghost use Rattle.settling.specs.Settling.{settled, settle};
 

@@ -1,5 +1,7 @@
 // Store and copy: the byte that a tick moves and its answer, the byte that a cut leaves, and what a frame leaves in the
 // copy.
+#![tactic(auto)]
+
 ghost use Rattle.std.specs.Prelude.{◌≡◌, get_or};
 ghost use Rattle.store.specs.Bytes.{Moved, torn_store, zeros, written_copy};
 

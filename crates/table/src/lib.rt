@@ -1,1 +1,2 @@
 // No code: document 01's table of proved cases, of the module and of its model (specs/, proofs/).
+#![tactic(auto)]

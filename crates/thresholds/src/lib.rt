@@ -1,4 +1,6 @@
 // The 40 threshold bytes as codes, and their order.
+#![tactic(auto)]
+
 ghost use Rattle.std.specs.Prelude.{◌≡◌, cond, ◌≤◌, pos, get_or};
 ghost use Rattle.dom.specs.Codes.{signed_code};
 ghost use Rattle.thresholds.specs.Thresholds.{code_of, code_at, row_at, thresholds_of, row_ordered, ordered};

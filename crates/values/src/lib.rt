@@ -1,4 +1,6 @@
 // What a frame reads. Bytes are read apart from words, so that no array stands beside the words.
+#![tactic(auto)]
+
 ghost use Rattle.std.specs.Prelude.{◌≡◌};
 ghost use Rattle.values.specs.Values.{register_of, register_byte, register_value};
 

@@ -1,4 +1,6 @@
 // The bits of a 16-bit word.
+#![tactic(auto)]
+
 ghost use Rattle.std.specs.Prelude.{◌≡◌, cond, [], ◌∷◌, ◌≤◌};
 ghost use Rattle.words.specs.Words.{bit, of_bits, share};
 

@@ -1,4 +1,6 @@
 // A job's ticks: what each is to do, and the job after it.
+#![tactic(auto)]
+
 ghost use Rattle.std.specs.Prelude.{◌≡◌};
 ghost use Rattle.work.specs.Work.{work_of, advanced, after_work};
 

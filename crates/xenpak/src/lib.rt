@@ -1,4 +1,6 @@
 // The XENPAK management core: the module's record and its calls. A call is refused, or each part of the record reacts.
+#![tactic(auto)]
+
 ghost use Rattle.std.specs.Prelude.{◌≡◌};
 ghost use Rattle.xenpak.specs.Frame.{module_after, frame};
 ghost use Rattle.xenpak.specs.Calls.{taken, started, power_on, power_cut, reset_pin, tick, lines, sample};
