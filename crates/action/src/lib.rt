@@ -8,7 +8,7 @@ use mdio::Request;
 use registers::Register;
 use words::bit;
 
-#[derive(Drop)]
+#[derive(Clone, Copy)]
 pub enum Action {
     // Powered off: refusal 7.
     Refused,

@@ -11,7 +11,7 @@ use latch::Latch;
 use registers::Register;
 
 #[repr(C)]
-#[derive(Drop)]
+#[derive(Clone, Copy)]
 pub struct Alarms {
     pub controls: Controls,
     // Receive and transmit faults.
@@ -30,7 +30,7 @@ pub struct Alarms {
 // What a lines call gives: receive and transmit faults, and the three link levels, signal detect, block lock and lane
 // alignment.
 #[repr(C)]
-#[derive(Drop)]
+#[derive(Clone, Copy)]
 pub struct Lines {
     pub receive: u16,
     pub transmit: u16,

@@ -7,7 +7,7 @@ ghost use Rattle.answers.specs.Answers.{refusal_number, creation_answer, power_o
 use action::Action;
 
 // Why a call is refused.
-#[derive(Drop)]
+#[derive(Clone, Copy)]
 pub enum Refusal {
     Port,
     ImageLength,
@@ -20,13 +20,13 @@ pub enum Refusal {
 }
 
 // The answer of making, power-on, cut, reset pin, lines and sample.
-#[derive(Drop)]
+#[derive(Clone, Copy)]
 pub enum Answer {
     Accepted,
     Refused(Refusal),
 }
 
-#[derive(Drop)]
+#[derive(Clone, Copy)]
 pub enum FrameAnswer {
     Silent,
     Set,
@@ -37,7 +37,7 @@ pub enum FrameAnswer {
 }
 
 // Loaded and burned come with offset and byte.
-#[derive(Drop)]
+#[derive(Clone, Copy)]
 pub enum TickAnswer {
     Nothing,
     Loaded(u8, u8),
@@ -46,14 +46,14 @@ pub enum TickAnswer {
 }
 
 // The count of ticks that settling stands for.
-#[derive(Drop)]
+#[derive(Clone, Copy)]
 pub enum SettleAnswer {
     Ticks(u32),
     Refused(Refusal),
 }
 
 // How many customer bytes are unsaved.
-#[derive(Drop)]
+#[derive(Clone, Copy)]
 pub enum UnsavedAnswer {
     Bytes(u8),
     Refused(Refusal),

@@ -7,7 +7,7 @@ ghost use Rattle.bus.specs.Bus.{one_more, next_address, bus_read, bus_after};
 use action::Action;
 
 #[repr(C)]
-#[derive(Drop)]
+#[derive(Clone, Copy)]
 pub struct Bus {
     pub address: u16,
     pub counter: u16,

@@ -10,7 +10,7 @@ use dom::Sample;
 use store::Cut;
 use xenpak::{FrameOutcome, Module, Outcome, TickOutcome};
 
-#[derive(Drop)]
+#[derive(Clone, Copy)]
 pub enum Call {
     PowerOn,
     Cut(Cut),
@@ -22,14 +22,14 @@ pub enum Call {
 }
 
 // The answer of a call.
-#[derive(Drop)]
+#[derive(Clone, Copy)]
 pub enum CallAnswer {
     Plain(Answer),
     Frame(FrameAnswer),
     Tick(TickAnswer),
 }
 
-#[derive(Drop)]
+#[derive(Clone, Copy)]
 pub struct CallOutcome {
     pub next: Module,
     pub answer: CallAnswer,

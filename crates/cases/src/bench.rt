@@ -11,7 +11,7 @@ const THRESHOLDS: [u8; 41] =
 
 // What a module is made of: how many bytes of an image, which checksum it has, how many bytes of the thresholds, and a code
 // at one of their bytes.
-#[derive(Drop)]
+#[derive(Clone, Copy)]
 pub struct Parts {
     image: u32,
     checksum: u8,

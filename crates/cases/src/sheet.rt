@@ -76,7 +76,7 @@ const IN_NUMBER: u8 = 2;
 
 const IN_COMMENT: u8 = 3;
 
-#[derive(Drop)]
+#[derive(Clone, Copy)]
 pub struct Step {
     pub word: u64,
     // A '?' follows the word: the answer is shown.

@@ -6,7 +6,7 @@ ghost use Rattle.controls.specs.Controls.{control_written, control_at};
 
 // 9000 RX_ALARM, 9001 TX_ALARM, 9002 LASI, 9006 TX_FLAG, 9007 RX_FLAG control.
 #[repr(C)]
-#[derive(Drop)]
+#[derive(Clone, Copy)]
 pub struct Controls {
     pub rxalarm: u16,
     pub txalarm: u16,

@@ -16,7 +16,7 @@ const CUSTOMER: usize = 119;
 const BYTES: usize = 48;
 
 #[repr(C)]
-#[derive(Drop)]
+#[derive(Clone, Copy)]
 pub struct Differing {
     // From the copy: these are unsaved.
     pub copy: u8,

@@ -17,7 +17,7 @@ pub const RECEIVE: usize = 3;
 
 // Temperature in 1/256 degree, bias, transmit power, receive power.
 #[repr(C)]
-#[derive(Drop)]
+#[derive(Clone, Copy)]
 pub struct Sample {
     pub temperature: i16,
     pub bias: u16,

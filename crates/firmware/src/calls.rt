@@ -20,7 +20,7 @@ use xenpak::{Module, Outcome};
 
 // The record after a call, and the refusal's number or 0.
 #[repr(C)]
-#[derive(Drop)]
+#[derive(Clone, Copy)]
 pub struct Called {
     pub next: Module,
     pub refusal: u8,
@@ -28,7 +28,7 @@ pub struct Called {
 
 // The record after settling, the ticks made, and the refusal's number or 0.
 #[repr(C)]
-#[derive(Drop)]
+#[derive(Clone, Copy)]
 pub struct Settled {
     pub next: Module,
     pub ticks: u32,

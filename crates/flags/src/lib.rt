@@ -10,7 +10,7 @@ use thresholds::{HIGH_ALARM, HIGH_WARNING, LOW_ALARM, LOW_WARNING};
 use words::of_bits;
 
 // The words of A070, A071, A074 and A075 (MSA: TX_FLAG and RX_FLAG).
-#[derive(Drop)]
+#[derive(Clone, Copy)]
 pub struct Flags {
     pub txalarm: u16,
     pub rxalarm: u16,

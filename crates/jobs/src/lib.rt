@@ -29,7 +29,7 @@ pub const FIRST_COMMAND: u16 = 0x0003;
 
 // Four bytes, so that a tick and a frame carry it in one register.
 #[repr(C)]
-#[derive(Drop)]
+#[derive(Clone, Copy)]
 pub struct Job {
     // The offset due, and the job's last one.
     pub due: u8,

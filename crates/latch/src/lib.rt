@@ -6,7 +6,7 @@ ghost use Rattle.latch.specs.Latch.{fed, cleared, latched};
 
 // The latest word, and every bit that a word had since the latch was last cleared.
 #[repr(C)]
-#[derive(Drop)]
+#[derive(Clone, Copy)]
 pub struct Latch {
     pub live: u16,
     pub since: u16,

@@ -5,7 +5,7 @@ ghost use Rattle.std.specs.Prelude.{◌≡◌};
 ghost use Rattle.mdio.specs.Frame.{frame_of, reaches, turned, asked, request_of};
 
 // Bits 31:30, 29:28, 27:23, 22:18, 17:16 and 15:0.
-#[derive(Drop)]
+#[derive(Clone, Copy)]
 struct Frame {
     start: u8,
     operation: u8,
@@ -16,7 +16,7 @@ struct Frame {
 }
 
 // What a frame asks of a module.
-#[derive(Drop)]
+#[derive(Clone, Copy)]
 pub enum Request {
     // Not for this module.
     Silent,

@@ -9,7 +9,7 @@ use dom::Sample;
 use registers::Register;
 
 #[repr(C)]
-#[derive(Drop)]
+#[derive(Clone, Copy)]
 pub struct Monitor {
     pub sample: Sample,
     // Whether a low byte is held, of which quantity, and the byte.

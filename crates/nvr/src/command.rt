@@ -6,7 +6,7 @@ use crate::image::Region;
 use words::bit;
 
 // What a word written to 8000 starts.
-#[derive(Drop)]
+#[derive(Clone, Copy)]
 pub enum Command {
     LoadAll,
     LoadByte(u8),

@@ -3,7 +3,7 @@ ghost use Rattle.std.specs.Prelude.{◌≡◌, ◌+◌, ◌%◌, take};
 ghost use Rattle.nvr.specs.Image.{region_of, is_customer, sum, checksum_right};
 
 // The regions of an image, by offset.
-#[derive(Drop)]
+#[derive(Clone, Copy)]
 pub enum Region {
     Basic,
     Checksum,

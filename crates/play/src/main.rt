@@ -16,7 +16,7 @@ const ROOM: usize = BLOCK * LONGEST;
 
 // After a turn: how many characters of lines are at the front of the output, how many bytes of a record that is not whole yet
 // at the front of the input, whether more can follow, and whether the input failed.
-#[derive(Drop)]
+#[derive(Clone, Copy)]
 struct Progress {
     player: Player,
     written: usize,

@@ -16,7 +16,7 @@ use xenpak::Module;
 
 mod refusal;
 
-#[derive(Drop)]
+#[derive(Clone, Copy)]
 pub struct Player {
     // The module that is played on.
     pub unit: Module,
@@ -27,20 +27,20 @@ pub struct Player {
 }
 
 // A record's line, and the position after the record; nothing where no record is played.
-#[derive(Drop)]
+#[derive(Clone, Copy)]
 pub enum Shown {
     Line(Line, usize),
     Nothing,
 }
 
-#[derive(Drop)]
+#[derive(Clone, Copy)]
 pub struct Step {
     pub player: Player,
     pub shown: Shown,
 }
 
 // A block played: how many of its bytes are used, and how many characters of lines are written.
-#[derive(Drop)]
+#[derive(Clone, Copy)]
 pub struct Played {
     pub player: Player,
     pub used: usize,

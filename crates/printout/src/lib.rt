@@ -5,7 +5,7 @@ ghost use Rattle.std.specs.Prelude.{◌≡◌, [], ◌∷◌, ◌+◌, ◌≤◌
 ghost use Rattle.io.specs.Digits.{hex_digit_ascii};
 ghost use Rattle.printout.specs.Line.{space, decimal, kind_text, refusal_text, alarm_digit, line_text, Put, Written};
 
-#[derive(Drop)]
+#[derive(Clone, Copy)]
 pub struct Line {
     // How many records were before it.
     pub index: u64,

@@ -16,7 +16,7 @@ pub const UNKNOWN_KIND: u8 = 9;
 pub const CUT_SHORT: u8 = 10;
 
 // What stands at a position of a recording.
-#[derive(Drop)]
+#[derive(Clone, Copy)]
 pub enum Item {
     // A whole record: its kind, its call, and the position after it.
     Call(u8, Call, usize),

@@ -5,7 +5,7 @@ ghost use Rattle.std.specs.Prelude.{◌≡◌};
 ghost use Rattle.registers.specs.Map.{register_at};
 
 // What stands at an address.
-#[derive(Drop)]
+#[derive(Clone, Copy)]
 pub enum Register {
     // 0000: PMA/PMD control, whose bit 15 resets.
     PmaControl,

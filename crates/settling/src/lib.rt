@@ -9,7 +9,7 @@ use store::move_byte;
 use work::{after_work, work_of};
 use xenpak::Module;
 
-#[derive(Drop)]
+#[derive(Clone, Copy)]
 pub struct SettleOutcome {
     pub next: Module,
     pub answer: SettleAnswer,

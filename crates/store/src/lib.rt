@@ -10,7 +10,7 @@ use answers::{Refusal, TickAnswer};
 use work::Work;
 
 // A power cut: clean, or torn with a byte (document 01: struck).
-#[derive(Drop)]
+#[derive(Clone, Copy)]
 pub enum Cut {
     Clean,
     Torn(u8),

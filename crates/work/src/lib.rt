@@ -7,7 +7,7 @@ ghost use Rattle.work.specs.Work.{work_of, advanced, after_work};
 use jobs::{BURN, Job, NONE};
 
 // What a tick is to do.
-#[derive(Drop)]
+#[derive(Clone, Copy)]
 pub enum Work {
     // Powered off: refusal 7.
     Refused,

@@ -20,7 +20,7 @@ use values::{byte_read, value_read};
 use work::{after_work, work_of};
 
 #[repr(C)]
-#[derive(Drop)]
+#[derive(Clone, Copy)]
 pub struct Module {
     pub copy: [u8; 256],
     pub job: Job,
@@ -37,19 +37,19 @@ pub struct Module {
 }
 
 // A call's answer beside the record after it.
-#[derive(Drop)]
+#[derive(Clone, Copy)]
 pub struct Outcome {
     pub next: Module,
     pub answer: Answer,
 }
 
-#[derive(Drop)]
+#[derive(Clone, Copy)]
 pub struct FrameOutcome {
     pub next: Module,
     pub answer: FrameAnswer,
 }
 
-#[derive(Drop)]
+#[derive(Clone, Copy)]
 pub struct TickOutcome {
     pub next: Module,
     pub answer: TickAnswer,
