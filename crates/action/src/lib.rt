@@ -69,6 +69,7 @@ fn request_action(request: Request, address: u16, busy: bool) -> Action
 }
 
 // What a frame asks of a module with this power, port and address register, a job under way (busy) or not.
+#[tactic(auto, unfolding(crate::specs::Action::action_of))]
 pub fn decide(powered: bool, port: u8, address: u16, busy: bool, word: u32) -> Action
     ensures { result ≡ action_of powered port address busy word }
 {

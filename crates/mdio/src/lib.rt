@@ -61,6 +61,7 @@ fn turned(turnaround: u8, request: Request) -> Request
 }
 
 // What a frame that reaches the module asks.
+#[tactic(auto, unfolding(crate::specs::Frame::asked))]
 fn asked(operation: u8, turnaround: u8, payload: u16) -> Request
     ensures { result ≡ asked operation turnaround payload }
 {
@@ -73,6 +74,7 @@ fn asked(operation: u8, turnaround: u8, payload: u16) -> Request
 }
 
 impl Request {
+    #[tactic(auto, unfolding(crate::specs::Frame::request_of))]
     pub fn of(word: u32, port: u8) -> Request
         ensures { result ≡ request_of word port }
     {

@@ -56,6 +56,7 @@ fn command_by(code: u16, write: bool, offset: u8) -> Command
 }
 
 impl Command {
+    #[tactic(auto, unfolding(crate::specs::Command::command_of))]
     pub fn of(word: u16) -> Command
         ensures { result ≡ command_of word }
     {

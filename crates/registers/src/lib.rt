@@ -31,6 +31,7 @@ pub enum Register {
 }
 
 impl Register {
+    #[tactic(auto, unfolding(crate::specs::Map::register_at, crate::specs::Map::rows))]
     pub fn at(address: u16) -> Register
         ensures { result ≡ register_at address }
     {
