@@ -54,6 +54,7 @@ pub fn tear(store: &mut [u8; 256], work: Work, cut: Cut)
 }
 
 // The copy begins as 256 zeros.
+#[tactic(auto, unfolding(crate::specs::Bytes::zeros))]
 fn zero(copy: &mut [u8; 256])
     ensures { copy.new ≡ zeros 256 }
 {
