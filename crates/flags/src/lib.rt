@@ -81,6 +81,7 @@ fn codes_of(s: Sample) -> [i32; 4]
 }
 
 // The flags that a sample raises, by the four thresholds of each quantity.
+#[tactic(auto, unfolding(crate::specs::Flags::flags_of))]
 pub fn flags_of(t: [[i32; 4]; 4], s: Sample) -> Flags
     ensures { result ≡ flags_of t s }
 {
