@@ -96,6 +96,7 @@ impl Module {
     }
 
     // Power-on: the first load starts, and the lines are zero. Refused with 8 when powered.
+    #[tactic(auto, unfolding(crate::specs::Calls::power_on))]
     pub fn power_on(mut self) -> Outcome
         ensures { result ≡ power_on self }
     {
@@ -105,6 +106,7 @@ impl Module {
     }
 
     // The reset pin: the first load starts, and the lines are kept.
+    #[tactic(auto, unfolding(crate::specs::Calls::reset_pin))]
     pub fn reset_pin(mut self) -> Outcome
         ensures { result ≡ reset_pin self }
     {
@@ -114,6 +116,7 @@ impl Module {
     }
 
     // The power goes; a torn cut (document 01: struck) leaves its byte where a burn is due.
+    #[tactic(auto, unfolding(crate::specs::Calls::power_cut))]
     pub fn power_cut(mut self, cut: Cut) -> Outcome
         ensures { result ≡ power_cut self cut }
     {
@@ -129,6 +132,7 @@ impl Module {
     }
 
     // One byte of the job, if one is due.
+    #[tactic(auto, unfolding(crate::specs::Calls::tick))]
     pub fn tick(mut self) -> TickOutcome
         ensures { result ≡ tick self }
     {
@@ -147,6 +151,7 @@ impl Module {
     }
 
     // The lines report faults and link levels.
+    #[tactic(auto, unfolding(crate::specs::Calls::lines))]
     pub fn lines(mut self, given: Lines) -> Outcome
         ensures { result ≡ lines self given }
     {
@@ -156,6 +161,7 @@ impl Module {
     }
 
     // The monitor reports a sample; one out of range is refused with 6.
+    #[tactic(auto, unfolding(crate::specs::Calls::sample))]
     pub fn sample(mut self, given: Sample) -> Outcome
         ensures { result ≡ sample self given }
     {
@@ -185,6 +191,7 @@ impl Module {
     }
 
     // A frame on the bus: what it asks is decided, then each part reacts.
+    #[tactic(auto, unfolding(crate::specs::Frame::frame))]
     pub fn frame(mut self, word: u32) -> FrameOutcome
         ensures { result ≡ frame self word }
     {
