@@ -48,6 +48,7 @@ fn settled(mut m: Module, budget: u32) -> SettleOutcome
 }
 
 // Ticks until no job is due or the budget is spent, and counts them.
+#[tactic(auto, unfolding(crate::specs::Settling::settle))]
 pub fn settle(m: Module, budget: u32) -> SettleOutcome
     ensures { result ≡ settle m budget }
 {

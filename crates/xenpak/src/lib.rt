@@ -75,6 +75,7 @@ impl Module {
 
     // What power-on and reset share: a first load starts, with all at zero but port, store, its counts, thresholds, this
     // power and these alarms.
+    #[tactic(auto, unfolding(store::specs::Bytes::zeros))]
     fn started(self, powered: bool, alarms: Alarms) -> Module
         ensures { result ≡ started powered alarms self }
     {
