@@ -70,6 +70,7 @@ fn ticked(outcome: TickOutcome) -> CallOutcome
 
 impl Call {
     // The call on a module.
+    #[tactic(auto, unfolding(crate::specs::Calls::step))]
     pub fn on(self, m: Module) -> CallOutcome
         ensures { result ≡ step m self }
     {

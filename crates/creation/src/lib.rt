@@ -31,6 +31,7 @@ fn copied(bytes: &[u8], into: &mut [u8]) -> bool
 }
 
 // Off, with this store, counted beside a copy of zeros, and these thresholds; all else at zero.
+#[tactic(auto, unfolding(store::specs::Bytes::zeros))]
 fn fresh(port: u8, store: [u8; 256], thresholds: [u8; 40]) -> Module
     ensures { result ≡ fresh port store thresholds }
 {
@@ -51,6 +52,7 @@ fn fresh(port: u8, store: [u8; 256], thresholds: [u8; 40]) -> Module
 }
 
 // The module made; refused, the blank one: port 0, all bytes zero, off.
+#[tactic(auto, unfolding(store::specs::Bytes::zeros))]
 fn made(answer: Answer, next: Module) -> Outcome
     ensures { result ≡ taken answer blank next }
 {
