@@ -67,19 +67,19 @@ impl Parts {
     }
 
     // The module made of these.
-    pub fn made(self, port: u8, asks: bool) -> Module {
+    pub fn made(self, rt: &impl Print, port: u8, asks: bool) -> Module {
         let image = self.image();
         let thresholds = self.thresholds();
         let image_end = (self.image % 258) as usize;
         let thresholds_end = (self.thresholds % 42) as usize;
         let outcome = make(port, &image[0..image_end], &thresholds[0..thresholds_end]);
         let answer = outcome.answer;
-        plain(answer, asks);
+        plain(rt, answer, asks);
         outcome.next
     }
 }
 
 // Port 5, powered off.
-pub fn fresh() -> Module {
-    Parts::RIGHT.made(5, false)
+pub fn fresh(rt: &impl Print) -> Module {
+    Parts::RIGHT.made(rt, 5, false)
 }

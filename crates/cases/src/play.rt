@@ -73,45 +73,50 @@ fn times(word: u64, a: u32, b: u32) -> u32 {
 }
 
 // The module after a call, whose answer is shown if it is asked for.
-fn once(m: Module, call: Call, asks: bool) -> Module {
+fn once(rt: &impl Print, m: Module, call: Call, asks: bool) -> Module {
     let outcome = call.on(m);
     let answer = outcome.answer;
-    answered(answer, asks);
+    answered(rt, answer, asks);
     outcome.next
 }
 
 // So many times the same call.
-fn repeated(mut m: Module, call: Call, n: u32, asks: bool) -> Module {
+fn repeated(rt: &impl Print, mut m: Module, call: Call, n: u32, asks: bool) -> Module {
     for _i in 0..n {
-        m = once(m, call, asks);
+        m = once(rt, m, call, asks);
     }
     m
 }
 
 // A step that makes a call; to write, read or walk, an address frame first.
-fn called(m: Module, step: Step) -> Module {
+fn called(rt: &impl Print, m: Module, step: Step) -> Module {
     let word = step.word;
     let call = call_of(word, step.first, step.second, step.third);
     let n = times(word, step.first, step.second);
     match word {
         WRITE | READ | WALK => {
-            let addressed = once(m, Call::Frame(ADDRESS_FRAME + step.first % 0x1_0000), false);
-            repeated(addressed, call, n, step.asks | (word != WRITE))
+            let addressed = once(
+                rt,
+                m,
+                Call::Frame(ADDRESS_FRAME + step.first % 0x1_0000),
+                false,
+            );
+            repeated(rt, addressed, call, n, step.asks | (word != WRITE))
         }
-        _ => repeated(m, call, n, step.asks),
+        _ => repeated(rt, m, call, n, step.asks),
     }
 }
 
 // A fresh module that is powered on, its first load done.
-fn loaded() -> Module {
-    let powered = once(fresh(), Call::PowerOn, false);
-    repeated(powered, Call::Tick, 256, false)
+fn loaded(rt: &impl Print) -> Module {
+    let powered = once(rt, fresh(rt), Call::PowerOn, false);
+    repeated(rt, powered, Call::Tick, 256, false)
 }
 
-fn settle_within(m: Module, budget: u32) -> Module {
+fn settle_within(rt: &impl Print, m: Module, budget: u32) -> Module {
     let outcome = settle(m, budget);
     let answer = outcome.answer;
-    settled(answer);
+    settled(rt, answer);
     outcome.next
 }
 
@@ -139,23 +144,23 @@ fn changed(m: Module) -> u32 {
 }
 
 // A step that looks at the module, or at the readout.
-fn look(m: Module, step: Step) {
+fn look(rt: &impl Print, m: Module, step: Step) {
     let word = step.word;
     match word {
-        LINE => number(alarm_line(m) as u32),
-        COUNT => number(counter(m) as u32),
-        STORED => crate::print::word(stored(m, (decimal(step.first) % 256) as u8) as u16),
-        UNSAVED => crate::print::unsaved(unsaved(m)),
-        CHANGED => number(changed(m)),
-        TENTHS => signed(tenths(signed_code((step.first % 0x1_0000) as u16))),
-        NEAR | HALVES => number(crate::readout::count(word)),
+        LINE => number(rt, alarm_line(m) as u32),
+        COUNT => number(rt, counter(m) as u32),
+        STORED => crate::print::word(rt, stored(m, (decimal(step.first) % 256) as u8) as u16),
+        UNSAVED => crate::print::unsaved(rt, unsaved(m)),
+        CHANGED => number(rt, changed(m)),
+        TENTHS => signed(rt, tenths(signed_code((step.first % 0x1_0000) as u16))),
+        NEAR | HALVES => number(rt, crate::readout::count(word)),
         MARK | BACK | IMAGE | CODES => {}
-        _ => text(b"=?"),
+        _ => text(rt, b"=?"),
     }
 }
 
 // The module after a step; `parts` are those of the next making.
-fn after(m: Module, parts: Parts, step: Step) -> Module {
+fn after(rt: &impl Print, m: Module, parts: Parts, step: Step) -> Module {
     let word = step.word;
     match word {
         ON
@@ -172,22 +177,22 @@ fn after(m: Module, parts: Parts, step: Step) -> Module {
         | WRITE
         | READ
         | WALK
-        | AGAIN => { called(m, step) }
-        MAKE => parts.made((decimal(step.first) % 256) as u8, step.asks),
-        FRESH => fresh(),
-        LOADED => loaded(),
-        SETTLE => settle_within(m, decimal(step.first)),
+        | AGAIN => { called(rt, m, step) }
+        MAKE => parts.made(rt, (decimal(step.first) % 256) as u8, step.asks),
+        FRESH => fresh(rt),
+        LOADED => loaded(rt),
+        SETTLE => settle_within(rt, m, decimal(step.first)),
         COUNTED => counted(m, decimal(step.first)),
         _ => {
-            look(m, step);
+            look(rt, m, step);
             m
         }
     }
 }
 
 // Plays a sheet, and writes it again with what its steps give.
-pub fn play(sheet: &[u8]) {
-    let mut m = fresh();
+pub fn play(rt: &impl Print, sheet: &[u8]) {
+    let mut m = fresh(rt);
     let mut marked = m;
     let mut parts = Parts::RIGHT;
     let mut step = Step::NONE;
@@ -196,7 +201,7 @@ pub fn play(sheet: &[u8]) {
         let byte = sheet[i];
         step = step.fed(byte);
         if step.ready {
-            m = after(m, parts, step);
+            m = after(rt, m, parts, step);
             parts = parts.after(step);
             if step.word == MARK {
                 marked = m;
@@ -206,7 +211,7 @@ pub fn play(sheet: &[u8]) {
             }
             step = step.done();
         }
-        text(&[byte]);
+        text(rt, &[byte]);
         i += 1;
     }
 }

@@ -75,91 +75,79 @@ impl Settled {
     }
 }
 
-#[unsafe(no_mangle)]
-pub extern "C" fn xenpak_make(port: u8, image: &[u8], thresholds: &[u8]) -> Called
+pub fn xenpak_make(port: u8, image: &[u8], thresholds: &[u8]) -> Called
     ensures { result ≡ called_by (make port image.now thresholds.now) }
 {
     Called::by(make(port, image, thresholds))
 }
 
-#[unsafe(no_mangle)]
-pub extern "C" fn xenpak_power_on(m: Module) -> Called
+pub fn xenpak_power_on(m: Module) -> Called
     ensures { result ≡ called_by (power_on m) }
 {
     Called::by(m.power_on())
 }
 
 // A clean cut.
-#[unsafe(no_mangle)]
-pub extern "C" fn xenpak_cut(m: Module) -> Called
+pub fn xenpak_cut(m: Module) -> Called
     ensures { result ≡ called_by (power_cut m Clean) }
 {
     Called::by(m.power_cut(Cut::Clean))
 }
 
 // A torn cut, with its byte.
-#[unsafe(no_mangle)]
-pub extern "C" fn xenpak_cut_torn(m: Module, byte: u8) -> Called
+pub fn xenpak_cut_torn(m: Module, byte: u8) -> Called
     ensures { result ≡ called_by (power_cut m (Torn byte)) }
 {
     Called::by(m.power_cut(Cut::Torn(byte)))
 }
 
-#[unsafe(no_mangle)]
-pub extern "C" fn xenpak_reset_pin(m: Module) -> Called
+pub fn xenpak_reset_pin(m: Module) -> Called
     ensures { result ≡ called_by (reset_pin m) }
 {
     Called::by(m.reset_pin())
 }
 
-#[unsafe(no_mangle)]
-pub extern "C" fn xenpak_lines(m: Module, given: Lines) -> Called
+pub fn xenpak_lines(m: Module, given: Lines) -> Called
     ensures { result ≡ called_by (lines m given) }
 {
     Called::by(m.lines(given))
 }
 
-#[unsafe(no_mangle)]
-pub extern "C" fn xenpak_sample(m: Module, given: Sample) -> Called
+pub fn xenpak_sample(m: Module, given: Sample) -> Called
     ensures { result ≡ called_by (sample m given) }
 {
     Called::by(m.sample(given))
 }
 
-#[unsafe(no_mangle)]
-pub extern "C" fn xenpak_settle(m: Module, budget: u32) -> Settled
+pub fn xenpak_settle(m: Module, budget: u32) -> Settled
     ensures { result ≡ settled_by (settle m budget) }
 {
     Settled::by(settle(m, budget))
 }
 
 // The alarm line, LASI.
-#[unsafe(no_mangle)]
-pub extern "C" fn xenpak_line(m: Module) -> bool
+pub fn xenpak_line(m: Module) -> bool
     ensures { result ≡ line_of m }
 {
     alarm_line(m)
 }
 
 // Data answers since power-on or reset.
-#[unsafe(no_mangle)]
-pub extern "C" fn xenpak_counter(m: Module) -> u16
+pub fn xenpak_counter(m: Module) -> u16
     ensures { result ≡ counter_of m }
 {
     counter(m)
 }
 
 // The byte of the store at an offset.
-#[unsafe(no_mangle)]
-pub extern "C" fn xenpak_stored(m: Module, offset: u8) -> u8
+pub fn xenpak_stored(m: Module, offset: u8) -> u8
     ensures { result ≡ stored_at m offset }
 {
     stored(m, offset)
 }
 
 // A temperature code in tenths of a degree.
-#[unsafe(no_mangle)]
-pub extern "C" fn xenpak_tenths(code: i16) -> i16
+pub fn xenpak_tenths(code: i16) -> i16
     ensures { result ≡ tenths_of code }
 {
     tenths(code)

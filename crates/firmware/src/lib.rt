@@ -82,24 +82,21 @@ fn unsaved_word(answer: UnsavedAnswer) -> u32
 }
 
 // A tick of a lent record, for C.
-#[unsafe(no_mangle)]
-pub extern "C" fn xenpak_tick(m: &mut Module) -> u32
+pub fn xenpak_tick(m: &mut Module) -> u32
     ensures { (result ≡ answer_word (said_tick (tick m.old).answer)) × (m.new ≡ (tick m.old).next) }
 {
     tick_word(tick(m))
 }
 
 // A frame to a lent record, for C.
-#[unsafe(no_mangle)]
-pub extern "C" fn xenpak_frame(m: &mut Module, word: u32) -> u32
+pub fn xenpak_frame(m: &mut Module, word: u32) -> u32
     ensures { (result ≡ answer_word (said_frame (frame m.old word).answer)) × (m.new ≡ (frame m.old word).next) }
 {
     frame_word(frame(m, word))
 }
 
 // How much of a lent record is unsaved, for C.
-#[unsafe(no_mangle)]
-pub extern "C" fn xenpak_unsaved(m: &Module) -> u32
+pub fn xenpak_unsaved(m: &Module) -> u32
     ensures { result ≡ answer_word (said_unsaved (unsaved_of m.now)) }
 {
     unsaved_word(unsaved(*m))

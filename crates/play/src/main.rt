@@ -5,9 +5,9 @@ ghost use Rattle.std.specs.Prelude.{◌≡◌, ◌/◌, ◌≤◌, length, take}
 ghost use Rattle.printout.specs.Line.{longest};
 ghost use Rattle.play.specs.Turn.{Played, Turned};
 
-use libc::{STDERR_FILENO, STDIN_FILENO, STDOUT_FILENO};
 use player::{Player, keep};
 use printout::LONGEST;
+use std::io::{Read, Stderr, Stdin};
 
 // How many bytes of a recording are played at a time, and room for as many of the longest lines.
 const BLOCK: usize = 8192;
@@ -64,34 +64,38 @@ fn turn(player: Player, held: usize, got: isize, input: &mut [u8], output: &mut 
     played(player, input, held + count, count == 0, output)
 }
 
-// A read behind what is held, which stays.
-fn read_behind(held: usize, input: &mut [u8]) -> isize
+// A read behind what is held, which stays: how many bytes came, or -1 where it failed.
+fn read_behind(mut from: Stdin, held: usize, input: &mut [u8]) -> isize
     requires { held ≤ length input.old }
     ensures { take held input.new ≡ take held input.old }
 {
-    libc::read(STDIN_FILENO, &mut input[held..])
+    match from.read(&mut input[held..]) {
+        Ok(count) => count as isize,
+        Err(_) => -1,
+    }
 }
 
-fn tell(text: &[u8]) {
-    io::write_all(STDERR_FILENO, text);
+// Where standard error fails too, nobody is told.
+fn tell(to: Stderr, text: &[u8]) {
+    let _ = to.write_all(text);
 }
 
 // No run uses up the turns: they are there since a proved loop has to end.
-fn main() {
+fn main(rt: HostRuntime) {
     let mut input = [0; BLOCK];
     let mut output = [0; ROOM];
     let mut player = Player::blank();
     let mut held = 0;
     let mut turns = u64::MAX;
     while turns > 0 {
-        let got = read_behind(held, &mut input);
+        let got = read_behind(rt.stdin(), held, &mut input);
         let after = turn(player, held, got, &mut input, &mut output);
         if after.failed {
-            tell(b"play: standard input cannot be read\n");
+            tell(rt.stderr(), b"play: standard input cannot be read\n");
         }
-        let printed = io::write_all(STDOUT_FILENO, &output[..after.written]);
+        let printed = rt.write_all(&output[..after.written]).is_ok();
         if !printed {
-            tell(b"play: standard output cannot be written\n");
+            tell(rt.stderr(), b"play: standard output cannot be written\n");
         }
         if !(printed & after.more) {
             return;
