@@ -1,0 +1,10 @@
+-- Each turn moves one byte.
+use Rattle.std.proofs.Common.{◌-◌}
+use Rattle.player.proofs.Keeping.{Keeping}
+use Rattle.player.proofs.keep.Given as goal
+
+abbrev pub invariant-loop-i : goal.invariant-loop-i
+invariant-loop-i l = Keeping l.fn.from l.to l.fn.buffer l.buffer l.i l.n
+
+abbrev pub decreases-loop-i : goal.decreases-loop-i
+decreases-loop-i l = l.to - l.i
