@@ -66,6 +66,7 @@ impl Player {
     }
 
     // A player of the blank module: port 0, all bytes zero, off.
+    #[tactic(auto, unfolding(creation::specs::Creation::make, store::specs::Bytes::zeros))]
     pub fn blank() -> Player
         ensures { result ≡ started blank }
     {
@@ -122,6 +123,7 @@ impl Player {
     }
 
     // Plays the record at a position. `last` says that no bytes follow these: then a body cut short is refused.
+    #[tactic(auto, unfolding(crate::specs::Player::step_at))]
     pub fn step(self, bytes: &[u8], at: usize, last: bool) -> Step
         ensures { result ≡ step_at last self bytes.now at }
     {

@@ -97,6 +97,7 @@ fn lines(body: &[u8]) -> Lines
 }
 
 // The call of a known kind and its body.
+#[tactic(auto, using(crate::proofs::KnownKinds::last_kind), unfolding(crate::specs::Recording::call_of))]
 fn call_of(kind: u8, body: &[u8]) -> Call
     requires kind_in_bounds { body_length kind ≤ length body.now }
     requires kind_value { known kind ≡ true }
@@ -115,6 +116,7 @@ fn call_of(kind: u8, body: &[u8]) -> Call
 }
 
 // The record at a position.
+#[tactic(auto, using(crate::proofs::Tail::tail_is), unfolding(crate::specs::Recording::item_at))]
 pub fn item_at(bytes: &[u8], at: usize) -> Item
     ensures { result ≡ item_at bytes.now at }
 {
