@@ -2,13 +2,13 @@
 -- reference model, the thresholds and the history. With Reference, BurnLog and History it tells document 01, and what
 -- document 02 changes, a second time: of the code it takes the types of the calls and the form of an answer.
 -- Assumes nothing.
-use Rattle.std.specs.Prelude.{ℕ, zero, suc, ◌+◌, ◌-◌, ◌*◌, ◌/◌, ◌%◌, ◌^◌, min, Bool, not, ◌||◌, ◌&&◌, List, [], ◌∷◌, eqb, ltb, ℤ, pos, negsuc, neg_ℤ, length, get_or}
+use Rattle.std.specs.Prelude.{ℕ, zero, suc, ◌+◌, ◌-◌, ◌*◌, ◌/◌, ◌%◌, ◌^◌, min, Bool, not, ◌||◌, ◌&&◌, List, [], ◌∷◌, eqb, ltb, ℤ, pos, negsuc, neg_ℤ, length, get_or, if◌then◌else◌}
 use Rattle.std.specs.Int.Signed.{le_z}
 use Rattle.answers.specs.Answers.{Said}
 use Rattle.dom.specs.declared.Sample.{Sample}
 use Rattle.calls.specs.declared.Call.{Call}
 use Rattle.calls.specs.declared.Call.TheVariants as call
-use Rattle.guarantees.specs.Reference.{if◌then◌else◌, Job, none, load, burn, Reference, refusal, accepts, Frame, silent, sets, writes, reads, frame_of, within, copy_at, control_at, control, writable}
+use Rattle.guarantees.specs.Reference.{Job, none, load, burn, Reference, refusal, accepts, Frame, silent, sets, writes, reads, frame_of, within, copy_at, control_at, control, writable}
 use Rattle.guarantees.specs.History.{Event, nothing, powered_on, was_reset, ticked, got_lines, got_sample, data_from, Model, step_model, Quantity, temperature, bias, transmit, receive, high_alarm, low_alarm, high_warning, low_warning, threshold, reading, tx_alarms, rx_alarms, tx_warnings, rx_warnings, stands, rx_alarm_bit, tx_alarm_bit, lasi_bit, line_by_history}
 
 -- ---- answers: which one it is counts from 1 in document 01's order, 0 is a refusal's

@@ -1,12 +1,12 @@
 -- The burn log (document 01: the burn ledger): offset and byte each time a tick or a torn cut (document 01: struck) puts a
 -- byte into the reference model's store, in order; and its application to an image.
 -- Assumes nothing.
-use Rattle.std.specs.Prelude.{ℕ, List, [], ◌∷◌, ◌++◌, get_or, set}
+use Rattle.std.specs.Prelude.{ℕ, List, [], ◌∷◌, ◌++◌, get_or, set, if◌then◌else◌}
 use Rattle.store.specs.declared.Cut.{Cut}
 use Rattle.store.specs.declared.Cut.TheVariants.{Clean, Torn}
 use Rattle.calls.specs.declared.Call.{Call}
 use Rattle.calls.specs.declared.Call.TheVariants as call
-use Rattle.guarantees.specs.Reference.{if◌then◌else◌, Job, none, load, burn, Reference, accepts, step_ref}
+use Rattle.guarantees.specs.Reference.{Job, none, load, burn, Reference, accepts, step_ref}
 
 pub record Entry : Type 0 where
   pub offset : ℕ

@@ -2,13 +2,13 @@
 -- Power, the address that a read is from and the controls are the reference model's. Of the code it takes the types of the
 -- calls.
 -- Assumes nothing.
-use Rattle.std.specs.Prelude.{ℕ, zero, suc, ◌+◌, ◌-◌, ◌*◌, Bool, false, not, ◌&&◌, ◌||◌, List, [], ◌∷◌, eqb, ℤ, pos, get_or}
+use Rattle.std.specs.Prelude.{ℕ, zero, suc, ◌+◌, ◌-◌, ◌*◌, Bool, false, not, ◌&&◌, ◌||◌, List, [], ◌∷◌, eqb, ℤ, pos, get_or, if◌then◌else◌}
 use Rattle.std.specs.Int.Signed.{lt_z}
 use Rattle.dom.specs.declared.Sample.{Sample}
 use Rattle.alarms.specs.declared.Lines.{Lines}
 use Rattle.calls.specs.declared.Call.{Call}
 use Rattle.calls.specs.declared.Call.TheVariants as call
-use Rattle.guarantees.specs.Reference.{if◌then◌else◌, Reference, initial, signed, accepts, Frame, silent, sets, writes, reads, bit, frame_of, control, step_ref}
+use Rattle.guarantees.specs.Reference.{Reference, initial, signed, accepts, Frame, silent, sets, writes, reads, bit, frame_of, control, step_ref}
 
 -- ---- events: what a call is to what is read after it
 pub data Event : Type 0 where
