@@ -51,7 +51,8 @@ fn turn(player: Player, held: usize, got: isize, input: &mut [u8], output: &mut 
     requires input_in_bounds { length input.old ≤ length output.old / longest }
     ensures { Turned player held input.old output.old input.new output.new got result }
 {
-    if got < 0 {
+    let failed = got < 0;
+    if failed {
         return Progress {
             player: player,
             written: 0,
