@@ -5,6 +5,7 @@ ghost use Rattle.std.specs.Prelude.{◌≡◌, cond, [], ◌∷◌, ◌≤◌};
 ghost use Rattle.words.specs.Words.{bit, of_bits, share};
 
 // Whether bit i of a word is set, bit 0 the lowest.
+#[tactic(auto, unfolding(crate::specs::Words::bit))]
 pub fn bit(i: u8, word: u16) -> bool
     ensures { result ≡ bit i word }
 {
