@@ -1,4 +1,4 @@
-/* The XENPAK management core for C: the module's record, and its calls. Link libfirmware.a (rt staticlib firmware).
+/* The XENPAK management core for C: the module's record, and its calls. Link libfirmware.a (tools/staticlib).
    Every call takes every value; a record is made by xenpak_make, and each bool in it or in an argument is 0 or 1. */
 #ifndef XENPAK_H
 #define XENPAK_H

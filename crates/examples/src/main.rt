@@ -61,7 +61,7 @@ fn read_full(mut file: File, into: &mut [u8]) -> usize
     done
 }
 
-// Reads the file that an argument names, as far as there is room.
+// Reads the file that an argument names, as far as there is room; none where the name is no text.
 fn contents(rt: &HostRuntime, i: usize, into: &mut [u8]) -> usize
     ensures { IsPrefixLen result into.new }
 {

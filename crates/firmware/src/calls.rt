@@ -1,4 +1,4 @@
-// Every other call for C, by value: each takes a record and hands back the one after it.
+// Every other call for C, by value: each takes a record and hands back the one after it; firmware_c exports them.
 ghost use Rattle.std.specs.Prelude.{◌≡◌};
 ghost use Rattle.dom.specs.Readout.{tenths_of};
 ghost use Rattle.store.specs.declared.Cut.TheVariants.{Clean, Torn};

@@ -1,4 +1,5 @@
-// A module for firmware: tick and frame over a lent record, updated there, how much of one is unsaved, and every call for C.
+// A module for firmware: tick and frame over a lent record, updated there, how much of one is unsaved, and every call for C, which
+// firmware_c exports.
 #![tactic(auto)]
 
 ghost use Rattle.std.specs.Prelude.{◌≡◌, ◌+◌, ◌*◌};

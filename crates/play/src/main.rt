@@ -28,7 +28,7 @@ struct Progress {
 // Plays the bytes of the input before `end`.
 fn played(player: Player, input: &mut [u8], end: usize, last: bool, output: &mut [u8]) -> Progress
     requires end_in_bounds { end ≤ length input.old }
-    requires input_in_bounds { length input.old ≤ length output.old / longest }
+    requires room { length input.old ≤ length output.old / longest }
     ensures { Played last player (take end input.old) input.old output.old input.new output.new result }
 {
     let block = player.play(&input[..end], last, output);
@@ -48,7 +48,7 @@ fn played(player: Player, input: &mut [u8], end: usize, last: bool, output: &mut
 // By the answer of a read behind what is held, plays that and what came. No bytes came: none follow.
 fn turn(player: Player, held: usize, got: isize, input: &mut [u8], output: &mut [u8]) -> Progress
     requires held_in_bounds { held ≤ length input.old }
-    requires input_in_bounds { length input.old ≤ length output.old / longest }
+    requires room { length input.old ≤ length output.old / longest }
     ensures { Turned player held input.old output.old input.new output.new got result }
 {
     let failed = got < 0;

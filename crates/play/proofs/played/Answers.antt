@@ -4,5 +4,5 @@ use Rattle.play.proofs.played.Goals as goal
 
 pub returns : goal.returns
 returns c =
-    block_played c.args.player _ _ _ _ _ _ c.args.last _ c.requires.end_in_bounds c.requires.input_in_bounds c.play-block.ensures
+    block_played c.args.player _ _ _ _ _ _ c.args.last _ c.requires.end_in_bounds c.requires.room c.play-block.ensures
     c.keep-held.ensures
