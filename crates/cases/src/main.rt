@@ -1,7 +1,7 @@
 // Plays a bench sheet from standard input on the core, and writes it again with what each step gave.
 #![tactic(auto)]
 
-ghost use Rattle.io.specs.Counts.{IsPrefixLen};
+ghost use Rattle.std.specs.Prelude.{◌≤◌, length};
 
 mod bench;
 mod play;
@@ -13,7 +13,7 @@ use std::io::{Read, Stdin};
 
 // Reads until the buffer is full, the input ends or a read fails; how many bytes are at the buffer's start.
 fn read_full(mut input: Stdin, into: &mut [u8]) -> usize
-    ensures { IsPrefixLen result into.new }
+    ensures { result ≤ length into.new }
 {
     let mut done = 0;
     while done < into.len() {
