@@ -1,5 +1,5 @@
 #!/usr/bin/env python3
-"""Respells this repository's own definitions and lemmas as today's Rattle does: run once, at the top, after /opt/rattle/port/port.py.
+"""Respells this repository's own definitions and lemmas as today's Rattle does: run once, at the top, after the kit's port/port.py.
 
 usage: python3 tools/respell.py           rewrites crates/*/{specs,proofs}/**/*.antt, crates/*/src/*.rt (contracts) and README.md, docs/GUARANTEES.md, docs/DECISIONS.md
        python3 tools/respell.py --list    prints each old name and its new one
@@ -66,17 +66,6 @@ def declared(root):
                 for n in ALIAS.findall(line):
                     names.setdefault(n, set()).add(p)
     return names
-
-
-def library(root):
-    """Names that the kit's words have, as far as a dash may join them."""
-    kit = os.path.dirname(os.path.dirname(os.path.realpath("/opt/rattle/bin/rt")))
-    found = set()
-    for p in ("core/specs/Prelude.antt", "core/specs/List.antt", "core/specs/Int.antt"):
-        full = os.path.join(kit, "rattle", p)
-        if os.path.exists(full):
-            found |= set(re.findall(r"[a-z][\w']*", read(full)))
-    return found
 
 
 def mapping(root):
