@@ -1,7 +1,7 @@
 #!/usr/bin/env python3
 """Respells this repository's own definitions and lemmas as today's Rattle does: run once, at the top, after the kit's port/port.py.
 
-usage: python3 tools/respell.py           rewrites crates/*/{specs,proofs}/**/*.antt, crates/*/src/*.rt (contracts) and README.md, docs/GUARANTEES.md, docs/DECISIONS.md
+usage: python3 tools/respell.py           rewrites crates/*/{specs,proofs}/**/*.antt, crates/*/src/*.rt (contracts) and README.md, docs/GUARANTEES.md, docs/DECISIONS.md, docs/changes/
        python3 tools/respell.py --list    prints each old name and its new one
 
 Words are in snake case (alarmLine: alarm_line). A definition, a field and a constructor have no dash. The proof of a function f is
