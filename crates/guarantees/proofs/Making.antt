@@ -13,7 +13,7 @@ use lib.Seq.{take-take, get_or-take}
 use Rattle.nvr.specs.Image.{sum, checksum_right}
 use Rattle.thresholds.specs.Thresholds.{thresholds_of, ordered}
 use Rattle.store.specs.Bytes.{zeros}
-use Rattle.answers.specs.Answers.{said_plain, creation_answer}
+use Rattle.answers.specs.Answers.{Answer, said_plain}
 use Rattle.answers.specs.declared.Answer.{Answer}
 use Rattle.answers.specs.declared.Answer.TheVariants.{Accepted}
 use Rattle.xenpak.specs.Calls.{kept}
