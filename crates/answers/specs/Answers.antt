@@ -24,6 +24,11 @@ refusal_number Temperature = 6
 refusal_number PoweredOff = 7
 refusal_number PoweredOn = 8
 
+-- the number of the refusal in an answer, 0 where there is none
+abbrev pub number_in : {A : Type 0} → Answer A → ℕ
+number_in (Ok a) = 0
+number_in (Err why) = refusal_number why
+
 -- an answer as document 01 gives it: the refusal's number, 0 where there is none; which of the answers that it names for
 -- the call, in its order from 1, 0 where the call is refused; and the values that come with it
 pub record Said : Type 0 where

@@ -2,7 +2,7 @@
 #![tactic(auto)]
 
 ghost use Rattle.std.specs.Prelude.{◌≡◌};
-ghost use Rattle.answers.specs.Answers.{refusal_number, power_on_answer, call_answer, frame_answer, unsaved_answer};
+ghost use Rattle.answers.specs.Answers.{refusal_number, number_in, power_on_answer, call_answer, frame_answer, unsaved_answer};
 
 use action::Action;
 
@@ -58,6 +58,18 @@ impl From<Refusal> for u8 {
         }
     }
 }
+
+// The number of the refusal in an answer, 0 where the call is accepted.
+pub fn number<A: Copy>(answer: Answer<A>) -> u8
+    ensures { result ≡ number_in answer }
+{
+    match answer {
+        Ok(_) => 0,
+        Err(why) => u8::from(why),
+    }
+}
+
+// ---- which answer a call gets
 
 // Of power-on: 8 when powered.
 pub fn to_power_on(powered: bool) -> Answer<()>
