@@ -74,9 +74,9 @@ pub fn write_copy(copy: &mut [u8; 256], action: Action)
     }
 }
 
-// The byte at an offset.
-pub fn byte_at(bytes: &[u8; 256], offset: u8) -> u8
+// The byte at an offset, 0 past the last.
+pub fn byte_at<const N: usize>(bytes: &[u8; N], offset: u8) -> u8
     ensures { result ≡ get_or bytes.now offset 0 }
 {
-    bytes[offset as usize]
+    bytes.get(usize::from(offset)).copied().unwrap_or(0)
 }
