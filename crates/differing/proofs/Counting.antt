@@ -1,4 +1,4 @@
--- Counting: a bool as a number, no more counted than there are, and the customer bytes of a store that are not zero.
+-- Counting: no more counted than there are, and the customer bytes of a store that are not zero.
 -- Assumes nothing.
 use Prim.Native.Nat.{ℕ, zero, suc, ◌+◌, ◌≤◌, ◌<◌}
 use native.Mathlib.Omega.{arith}
@@ -9,22 +9,17 @@ use lib.ListN.{length, get_or, take, drop}
 use Rattle.std.specs.List.{count_by}
 use Rattle.std.proofs.lemmas.List.Sums.{sum_by-cons}
 use Rattle.std.proofs.lemmas.List.{get_or-take, get_or-drop, length-take-le, length-drop}
-use mir.Val.{bool_byte}
 use Rattle.store.specs.Bytes.{zeros}
 use Rattle.store.proofs.Zeros.{zeros_at}
 use Rattle.differing.specs.Differing.{differ, one, how_many, differ_at, differences}
 
-pub record Bit (b : Bool) : Type 0 where
-  pub is : bool_byte b ≡ one b
-  pub low : one b ≤ 1
-
-pub bit : (b : Bool) → Bit b
-bit true = record { is = refl; low = omega arith }
-bit false = record { is = refl; low = omega arith }
+pub low : (b : Bool) → one b ≤ 1
+low true = omega arith
+low false = omega arith
 
 pub at_most : (n : ℕ) (p : ℕ → Bool) → how_many n p ≤ n
 at_most zero p = omega arith
-at_most (suc n) p = omega (arith, at_most n p, bit (p n))
+at_most (suc n) p = omega (arith, at_most n p, low (p n))
 
 -- two tests that agree below n
 pub alike : (n : ℕ) (p q : ℕ → Bool) → ((i : ℕ) → i < n → p i ≡ q i) → how_many n p ≡ how_many n q

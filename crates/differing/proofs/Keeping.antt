@@ -21,7 +21,7 @@ use Rattle.store.specs.declared.Cut.{Cut}
 use Rattle.store.specs.declared.Cut.TheVariants.{Clean, Torn}
 use Rattle.store.proofs.Zeros.{zeros_at}
 use Rattle.differing.specs.Differing.{differing, differ, one, how_many, differ_at, differences, counts_of, recount, copied, stored, differing_ticked, differing_cut, differing_after, BurnsCustomer, WritesCustomer, CountsKept}
-use Rattle.differing.proofs.Counting.{bit, at_most, alike}
+use Rattle.differing.proofs.Counting.{low, at_most, alike}
 
 -- ---- a count when one of what is counted changes
 module _ (p q : ℕ → Bool) (k : ℕ) (same : (i : ℕ) → i ≢ k → p i ≡ q i) where
@@ -35,7 +35,7 @@ module _ (p q : ℕ → Bool) (k : ℕ) (same : (i : ℕ) → i ≢ k → p i �
       go rec false e = let f = eqb-false n k e in omega (arith, rec (omega arith), ap one (same n f))
 
   changed : (n : ℕ) → n < 256 → k < n → recount (how_many n p) (p k) (q k) ≡ how_many n q
-  changed n s h = omega (arith, above n h, at_most n q, bit (p k), bit (q k))
+  changed n s h = omega (arith, above n h, at_most n q, low (p k), low (q k))
 
 -- ---- counts of bytes, of which those at one offset change
 module _ (a b a' b' : List ℕ) (o : ℕ) (same : (i : ℕ) → i ≢ o → differ_at a b i ≡ differ_at a' b' i) where

@@ -19,7 +19,8 @@ use Rattle.store.specs.declared.Cut.{Cut}
 use Rattle.store.specs.declared.Cut.TheVariants.{Clean, Torn}
 use Rattle.differing.specs.Differing.{one, how_many, differ_at, differences, counts_of, differing_started, differing_ticked, differing_cut, differing_after, BurnsCustomer, Kept}
 use Rattle.differing.specs.declared.Differing.{Differing}
-use Rattle.differing.proofs.Keeping.{alike, counts_kept}
+use Rattle.differing.proofs.Counting.{alike}
+use Rattle.differing.proofs.Keeping.{counts_kept}
 use Rattle.answers.specs.Answers.{Said, said_unsaved, unsaved_answer}
 use Rattle.xenpak.specs.declared.Module.{Module}
 use Rattle.guarantees.specs.Behaviour.{says, unsaved_from, full_count, unsaved_said}

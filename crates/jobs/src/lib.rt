@@ -80,8 +80,7 @@ impl Job {
     pub fn pma_word(self) -> u16
         ensures { result ≡ pma_word self }
     {
-        let kind = self.kind;
-        match kind {
+        match self.kind {
             FIRST => 0xa040,
             _ => 0x2040,
         }

@@ -1,35 +1,29 @@
 // The 40 threshold bytes as codes, and their order.
 #![tactic(auto)]
 
-ghost use Rattle.std.specs.Prelude.{◌≡◌, cond, ◌≤◌, pos};
-ghost use Rattle.dom.specs.Codes.{signed_code};
-ghost use Rattle.thresholds.specs.Thresholds.{code_at, row_at, thresholds_of, row_ordered, ordered};
+ghost use Rattle.std.specs.Prelude.{◌≡◌, ◌+◌, ◌≤◌, [], ◌∷◌};
+ghost use Rattle.thresholds.specs.Thresholds.{code_at, thresholds_of, row_ordered, ordered};
 
 use dom::signed_code;
 
-// The code at an offset, high byte first, as a number, signed or not.
-fn number_at(bytes: &[u8; 40], at: usize, signed: bool) -> i32
+// The code at an offset, high byte first.
+fn code_at(bytes: &[u8; 40], at: usize) -> u16
     requires { at ≤ 38 }
-    ensures { result ≡ cond signed signed_code pos (code_at bytes.now at) }
+    ensures { result ≡ code_at bytes.now at }
 {
-    let code = u16::from_be_bytes([bytes[at], bytes[at + 1]]);
-    if signed {
-        i32::from(signed_code(code))
-    } else {
-        i32::from(code)
-    }
+    u16::from_be_bytes([bytes[at], bytes[at + 1]])
 }
 
-// The row of thresholds from an offset on.
-fn row_at(bytes: &[u8; 40], at: usize, signed: bool) -> [i32; 4]
+// The four codes from an offset on.
+fn codes_at(bytes: &[u8; 40], at: usize) -> [u16; 4]
     requires { at ≤ 32 }
-    ensures { result ≡ row_at (cond signed signed_code pos) bytes.now at }
+    ensures { result ≡ code_at bytes.now at ∷ code_at bytes.now (at + 2) ∷ code_at bytes.now (at + 4) ∷ code_at bytes.now (at + 6) ∷ [] }
 {
     [
-        number_at(bytes, at, signed),
-        number_at(bytes, at + 2, signed),
-        number_at(bytes, at + 4, signed),
-        number_at(bytes, at + 6, signed),
+        code_at(bytes, at),
+        code_at(bytes, at + 2),
+        code_at(bytes, at + 4),
+        code_at(bytes, at + 6),
     ]
 }
 
@@ -38,10 +32,10 @@ pub fn thresholds_of(bytes: &[u8; 40]) -> [[i32; 4]; 4]
     ensures { result ≡ thresholds_of bytes.now }
 {
     [
-        row_at(bytes, 0, true),
-        row_at(bytes, 16, false),
-        row_at(bytes, 24, false),
-        row_at(bytes, 32, false),
+        codes_at(bytes, 0).map(|code| i32::from(signed_code(code))),
+        codes_at(bytes, 16).map(i32::from),
+        codes_at(bytes, 24).map(i32::from),
+        codes_at(bytes, 32).map(i32::from),
     ]
 }
 

@@ -1,0 +1,2 @@
+-- Laws of `thresholds` that belong to no one function.
+pub mod Mapped
