@@ -6,15 +6,6 @@ ghost use Rattle.dom.specs.Codes.{signed_code, acceptable};
 
 pub mod readout;
 
-// The quantities, in the order of their thresholds and registers.
-pub const TEMPERATURE: usize = 0;
-
-pub const BIAS: usize = 1;
-
-pub const TRANSMIT: usize = 2;
-
-pub const RECEIVE: usize = 3;
-
 // Temperature in 1/256 degree, bias, transmit power, receive power.
 #[repr(C)]
 #[derive(Clone, Copy)]

@@ -6,7 +6,7 @@ ghost use Rattle.std.specs.Int.Signed.{lt_z};
 ghost use Rattle.words.specs.Words.{of_bits};
 ghost use Rattle.flags.specs.Flags.{high, low, columns_of, codes_of, crossed, tx_bits, rx_bits, flags_of};
 
-use dom::{BIAS, RECEIVE, Sample, TEMPERATURE, TRANSMIT};
+use dom::Sample;
 use words::of_bits;
 
 // The words of A070, A071, A074 and A075 (MSA: TX_FLAG and RX_FLAG).
@@ -53,15 +53,17 @@ fn below(row: [i32; 4], code: i32, level: Level) -> bool
 fn tx_flags(t: [[i32; 4]; 4], codes: [i32; 4], level: Level) -> u16
     ensures { result ≡ of_bits (tx_bits (crossed t codes (columns_of level))) }
 {
+    let [temperature, bias, transmit, _] = t;
+    let [temperature_code, bias_code, transmit_code, _] = codes;
     of_bits([
-        below(t[TRANSMIT], codes[TRANSMIT], level),
-        above(t[TRANSMIT], codes[TRANSMIT], level),
-        below(t[BIAS], codes[BIAS], level),
-        above(t[BIAS], codes[BIAS], level),
+        below(transmit, transmit_code, level),
+        above(transmit, transmit_code, level),
+        below(bias, bias_code, level),
+        above(bias, bias_code, level),
         false,
         false,
-        below(t[TEMPERATURE], codes[TEMPERATURE], level),
-        above(t[TEMPERATURE], codes[TEMPERATURE], level),
+        below(temperature, temperature_code, level),
+        above(temperature, temperature_code, level),
     ])
 }
 
@@ -69,6 +71,8 @@ fn tx_flags(t: [[i32; 4]; 4], codes: [i32; 4], level: Level) -> u16
 fn rx_flags(t: [[i32; 4]; 4], codes: [i32; 4], level: Level) -> u16
     ensures { result ≡ of_bits (rx_bits (crossed t codes (columns_of level))) }
 {
+    let [_, _, _, receive] = t;
+    let [_, _, _, receive_code] = codes;
     of_bits([
         false,
         false,
@@ -76,8 +80,8 @@ fn rx_flags(t: [[i32; 4]; 4], codes: [i32; 4], level: Level) -> u16
         false,
         false,
         false,
-        below(t[RECEIVE], codes[RECEIVE], level),
-        above(t[RECEIVE], codes[RECEIVE], level),
+        below(receive, receive_code, level),
+        above(receive, receive_code, level),
     ])
 }
 
