@@ -4,8 +4,8 @@ use Rattle.std.specs.Prelude.{ℕ, ◌+◌, ◌*◌, List, [], ◌∷◌}
 use Rattle.answers.specs.Answers.{Said, said_plain, said_settle}
 use Rattle.xenpak.specs.declared.Outcome.{Outcome}
 use Rattle.settling.specs.declared.SettleOutcome.{SettleOutcome}
-use Rattle.firmware.specs.declared.calls.Called.{Called}
-use Rattle.firmware.specs.declared.calls.Settled.{Settled}
+use Rattle.firmware_c.specs.declared.calls.Called.{Called}
+use Rattle.firmware_c.specs.declared.calls.Settled.{Settled}
 
 -- an answer's values as one number: a value, or offset and byte
 abbrev pub value_of : List ℕ → ℕ

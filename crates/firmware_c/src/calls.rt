@@ -1,12 +1,13 @@
-// Every other call for C, by value: each takes a record and hands back the one after it; firmware_c exports them.
+// The calls for C by value: each takes a record and hands back the one after it.
 ghost use Rattle.std.specs.Prelude.{◌≡◌};
+ghost use Rattle.answers.specs.Answers.{said_plain};
 ghost use Rattle.dom.specs.Readout.{tenths_of};
 ghost use Rattle.store.specs.declared.Cut.TheVariants.{Clean, Torn};
 ghost use Rattle.xenpak.specs.Calls.{power_on, power_cut, reset_pin, lines, sample};
 ghost use Rattle.reads.specs.Reads.{line_of, counter_of, stored_at};
 ghost use Rattle.creation.specs.Creation.{make};
 ghost use Rattle.settling.specs.Settling.{settle};
-ghost use Rattle.firmware.specs.Words.{called_by, settled_by};
+ghost use Rattle.firmware_c.specs.Words.{called_by, settled_by};
 
 use alarms::Lines;
 use answers::{Answer, SettleAnswer};
@@ -35,21 +36,24 @@ pub struct Settled {
     pub refusal: u8,
 }
 
+// A refusal's number, or 0.
+fn refusal_of(answer: Answer) -> u8
+    ensures { result ≡ (said_plain answer).refusal }
+{
+    match answer {
+        Answer::Accepted => 0,
+        Answer::Refused(why) => why.number(),
+    }
+}
+
 impl Called {
     fn by(outcome: Outcome) -> Called
         ensures { result ≡ called_by outcome }
     {
-        let next = outcome.next;
         let answer = outcome.answer;
-        match answer {
-            Answer::Accepted => Called {
-                next: next,
-                refusal: 0,
-            },
-            Answer::Refused(why) => Called {
-                next: next,
-                refusal: why.number(),
-            },
+        Called {
+            next: outcome.next,
+            refusal: refusal_of(answer),
         }
     }
 }
@@ -75,79 +79,97 @@ impl Settled {
     }
 }
 
-pub fn xenpak_make(port: u8, image: &[u8], thresholds: &[u8]) -> Called
+// Making.
+#[unsafe(no_mangle)]
+pub extern "C" fn xenpak_make(port: u8, image: &[u8], thresholds: &[u8]) -> Called
     ensures { result ≡ called_by (make port image.now thresholds.now) }
 {
     Called::by(make(port, image, thresholds))
 }
 
-pub fn xenpak_power_on(m: Module) -> Called
+// Power-on.
+#[unsafe(no_mangle)]
+pub extern "C" fn xenpak_power_on(m: Module) -> Called
     ensures { result ≡ called_by (power_on m) }
 {
     Called::by(m.power_on())
 }
 
 // A clean cut.
-pub fn xenpak_cut(m: Module) -> Called
+#[unsafe(no_mangle)]
+pub extern "C" fn xenpak_cut(m: Module) -> Called
     ensures { result ≡ called_by (power_cut m Clean) }
 {
     Called::by(m.power_cut(Cut::Clean))
 }
 
 // A torn cut, with its byte.
-pub fn xenpak_cut_torn(m: Module, byte: u8) -> Called
+#[unsafe(no_mangle)]
+pub extern "C" fn xenpak_cut_torn(m: Module, byte: u8) -> Called
     ensures { result ≡ called_by (power_cut m (Torn byte)) }
 {
     Called::by(m.power_cut(Cut::Torn(byte)))
 }
 
-pub fn xenpak_reset_pin(m: Module) -> Called
+// The reset pin.
+#[unsafe(no_mangle)]
+pub extern "C" fn xenpak_reset_pin(m: Module) -> Called
     ensures { result ≡ called_by (reset_pin m) }
 {
     Called::by(m.reset_pin())
 }
 
-pub fn xenpak_lines(m: Module, given: Lines) -> Called
+// The lines that the optics report.
+#[unsafe(no_mangle)]
+pub extern "C" fn xenpak_lines(m: Module, given: Lines) -> Called
     ensures { result ≡ called_by (lines m given) }
 {
     Called::by(m.lines(given))
 }
 
-pub fn xenpak_sample(m: Module, given: Sample) -> Called
+// A sample of the diagnostics.
+#[unsafe(no_mangle)]
+pub extern "C" fn xenpak_sample(m: Module, given: Sample) -> Called
     ensures { result ≡ called_by (sample m given) }
 {
     Called::by(m.sample(given))
 }
 
-pub fn xenpak_settle(m: Module, budget: u32) -> Settled
+// Settling, with its budget in ticks.
+#[unsafe(no_mangle)]
+pub extern "C" fn xenpak_settle(m: Module, budget: u32) -> Settled
     ensures { result ≡ settled_by (settle m budget) }
 {
     Settled::by(settle(m, budget))
 }
 
 // The alarm line, LASI.
-pub fn xenpak_line(m: Module) -> bool
+#[unsafe(no_mangle)]
+pub extern "C" fn xenpak_line(m: Module) -> bool
     ensures { result ≡ line_of m }
 {
     alarm_line(m)
 }
 
 // Data answers since power-on or reset.
-pub fn xenpak_counter(m: Module) -> u16
+#[unsafe(no_mangle)]
+pub extern "C" fn xenpak_counter(m: Module) -> u16
     ensures { result ≡ counter_of m }
 {
     counter(m)
 }
 
 // The byte of the store at an offset.
-pub fn xenpak_stored(m: Module, offset: u8) -> u8
+#[unsafe(no_mangle)]
+pub extern "C" fn xenpak_stored(m: Module, offset: u8) -> u8
     ensures { result ≡ stored_at m offset }
 {
     stored(m, offset)
 }
 
 // A temperature code in tenths of a degree.
-pub fn xenpak_tenths(code: i16) -> i16
+#[unsafe(no_mangle)]
+pub extern "C" fn xenpak_tenths(code: i16) -> i16
     ensures { result ≡ tenths_of code }
 {
     tenths(code)
