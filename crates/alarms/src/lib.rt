@@ -2,7 +2,7 @@
 #![tactic(auto)]
 
 ghost use Rattle.std.specs.Prelude.{◌≡◌};
-ghost use Rattle.alarms.specs.Alarms.{differ, status_cleared, flags_cleared, after_read, restarted, controlled, alarms_after, after_lines, after_sample};
+ghost use Rattle.alarms.specs.Alarms.{status_cleared, flags_cleared, after_read, restarted, controlled, alarms_after, after_lines, after_sample};
 
 use action::Action;
 use controls::Controls;
@@ -39,12 +39,6 @@ pub struct Lines {
     pub lanes: bool,
 }
 
-fn differ(a: bool, b: bool) -> bool
-    ensures { result ≡ differ a b }
-{
-    if a { !b } else { b }
-}
-
 impl Alarms {
     // What power-on leaves: nothing enabled, nothing seen, the link down.
     pub const NONE: Alarms = Alarms {
@@ -65,19 +59,17 @@ impl Alarms {
     {
         match i {
             0 => {
-                self.rxfaults.since = 0;
-                self
+                self.rxfaults = self.rxfaults.cleared();
             }
             1 => {
-                self.txfaults.since = 0;
-                self
+                self.txfaults = self.txfaults.cleared();
             }
             2 => {
                 self.changed = false;
-                self
             }
-            _ => self,
+            _ => {}
         }
+        self
     }
 
     // A read of A070, A071, A074 or A075 clears its flags.
@@ -86,23 +78,20 @@ impl Alarms {
     {
         match i {
             0 => {
-                self.txalarm.since = 0;
-                self
+                self.txalarm = self.txalarm.cleared();
             }
             1 => {
-                self.rxalarm.since = 0;
-                self
+                self.rxalarm = self.rxalarm.cleared();
             }
             2 => {
-                self.txwarning.since = 0;
-                self
+                self.txwarning = self.txwarning.cleared();
             }
             3 => {
-                self.rxwarning.since = 0;
-                self
+                self.rxwarning = self.rxwarning.cleared();
             }
-            _ => self,
+            _ => {}
         }
+        self
     }
 
     // After a read of a register.
@@ -121,15 +110,10 @@ impl Alarms {
         ensures { result ≡ restarted self }
     {
         Alarms {
-            controls: Controls::ZERO,
             rxfaults: self.rxfaults.cleared(),
             txfaults: self.txfaults.cleared(),
-            txalarm: Latch::NONE,
-            rxalarm: Latch::NONE,
-            txwarning: Latch::NONE,
-            rxwarning: Latch::NONE,
             link: self.link,
-            changed: false,
+            ..Alarms::NONE
         }
     }
 
@@ -160,7 +144,7 @@ impl Alarms {
         let up = lines.signal & lines.block & lines.lanes;
         self.rxfaults = self.rxfaults.fed(lines.receive & 0x0039);
         self.txfaults = self.txfaults.fed(lines.transmit & 0x03d9);
-        self.changed = self.changed | differ(self.link, up);
+        self.changed = self.changed | (self.link != up);
         self.link = up;
         self
     }

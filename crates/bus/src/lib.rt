@@ -17,7 +17,7 @@ pub struct Bus {
 fn one_more(n: u16) -> u16
     ensures { result ≡ one_more n }
 {
-    if n < 0xffff { n + 1 } else { n }
+    n.saturating_add(1)
 }
 
 fn next_address(address: u16, increment: bool) -> u16

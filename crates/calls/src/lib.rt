@@ -2,13 +2,13 @@
 #![tactic(auto)]
 
 ghost use Rattle.std.specs.Prelude.{◌≡◌};
-ghost use Rattle.calls.specs.Calls.{plain, framed, ticked, step};
+ghost use Rattle.calls.specs.Calls.{step};
 
 use alarms::Lines;
 use answers::{Answer, FrameAnswer, TickAnswer};
 use dom::Sample;
 use store::Cut;
-use xenpak::{FrameOutcome, Module, Outcome, TickOutcome};
+use xenpak::{Module, Outcome};
 
 #[derive(Clone, Copy)]
 pub enum Call {
@@ -24,64 +24,37 @@ pub enum Call {
 // The answer of a call.
 #[derive(Clone, Copy)]
 pub enum CallAnswer {
-    Plain(Answer),
-    Frame(FrameAnswer),
-    Tick(TickAnswer),
+    Plain(Answer<()>),
+    Frame(Answer<FrameAnswer>),
+    Tick(Answer<TickAnswer>),
 }
 
-#[derive(Clone, Copy)]
-pub struct CallOutcome {
-    pub next: Module,
-    pub answer: CallAnswer,
-}
-
-fn plain(outcome: Outcome) -> CallOutcome
-    ensures { result ≡ plain outcome }
+// The same outcome, its answer as one of those of calls.
+fn told<A, F: FnOnce(A) -> CallAnswer>(outcome: Outcome<A>, tell: F) -> Outcome<CallAnswer>
+    requires { F.pre tell outcome.answer }
+    ensures answered { F.post tell outcome.answer result.answer }
+    ensures kept { result.next ≡ outcome.next }
 {
-    let next = outcome.next;
-    let answer = outcome.answer;
-    CallOutcome {
-        next: next,
-        answer: CallAnswer::Plain(answer),
-    }
-}
-
-fn framed(outcome: FrameOutcome) -> CallOutcome
-    ensures { result ≡ framed outcome }
-{
-    let next = outcome.next;
-    let answer = outcome.answer;
-    CallOutcome {
-        next: next,
-        answer: CallAnswer::Frame(answer),
-    }
-}
-
-fn ticked(outcome: TickOutcome) -> CallOutcome
-    ensures { result ≡ ticked outcome }
-{
-    let next = outcome.next;
-    let answer = outcome.answer;
-    CallOutcome {
-        next: next,
-        answer: CallAnswer::Tick(answer),
+    Outcome {
+        next: outcome.next,
+        answer: tell(outcome.answer),
     }
 }
 
 impl Call {
     // The call on a module.
     #[tactic(auto, unfolding(crate::specs::Calls::step))]
-    pub fn on(self, m: Module) -> CallOutcome
+    pub fn on(self, m: Module) -> Outcome<CallAnswer>
         ensures { result ≡ step m self }
     {
         match self {
-            Call::PowerOn => plain(m.power_on()),
-            Call::Cut(cut) => plain(m.power_cut(cut)),
-            Call::ResetPin => plain(m.reset_pin()),
-            Call::Frame(word) => framed(m.frame(word)),
-            Call::Tick => ticked(m.tick()),
-            Call::Lines(lines) => plain(m.lines(lines)),
-            Call::Sample(sample) => plain(m.sample(sample)),
+            Call::PowerOn => told(m.power_on(), CallAnswer::Plain),
+            Call::Cut(cut) => told(m.power_cut(cut), CallAnswer::Plain),
+            Call::ResetPin => told(m.reset_pin(), CallAnswer::Plain),
+            Call::Frame(word) => told(m.frame(word), CallAnswer::Frame),
+            Call::Tick => told(m.tick(), CallAnswer::Tick),
+            Call::Lines(lines) => told(m.lines(lines), CallAnswer::Plain),
+            Call::Sample(sample) => told(m.sample(sample), CallAnswer::Plain),
         }
     }
 }

@@ -1,2 +1,2 @@
 -- Laws of `creation` that belong to no one function.
-pub mod Copying
+pub mod Judging

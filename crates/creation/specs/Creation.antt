@@ -1,6 +1,6 @@
 -- Making a module (document 01: making): refusals 1 to 5 in order, the fresh module and the blank one.
 -- Assumes nothing.
-use Rattle.std.specs.Prelude.{ℕ, Bool, false, cond, ◌≡◌, List, eqb, leb, length}
+use Rattle.std.specs.Prelude.{ℕ, Bool, false, cond, not, List, eqb, leb, length, Ok, Err}
 use Rattle.nvr.specs.Image.{checksum_right}
 use Rattle.jobs.specs.Job.{no_job}
 use Rattle.store.specs.Bytes.{zeros}
@@ -9,7 +9,9 @@ use Rattle.monitor.specs.Monitor.{no_monitor}
 use Rattle.alarms.specs.Alarms.{no_alarms}
 use Rattle.differing.specs.Differing.{counts_of}
 use Rattle.bus.specs.Bus.{no_bus}
-use Rattle.answers.specs.Answers.{creation_answer}
+use Rattle.answers.specs.Answers.{Answer}
+use Rattle.answers.specs.declared.Refusal.{Refusal}
+use Rattle.answers.specs.declared.Refusal.TheVariants.{Port, ImageLength, ThresholdsLength, Checksum, ThresholdOrder}
 use Rattle.xenpak.specs.Calls.{taken}
 use Rattle.xenpak.specs.declared.Module.{Module}
 use Rattle.xenpak.specs.declared.Outcome.{Outcome}
@@ -35,16 +37,35 @@ fresh port image thresholds =
 abbrev pub blank : Module
 blank = fresh 0 (zeros 256) (zeros 40)
 
--- bytes of the right length take their place, others do not
-pub record Copied (from into : List ℕ) (r : Bool) (after : List ℕ) : Type 0 where
-  pub fits : r ≡ eqb (length from) (length into)
-  pub bytes : after ≡ cond r from into
+-- bytes of the right length
+abbrev pub sized : ℕ → List ℕ → Refusal → Answer (List ℕ)
+sized n bytes why = cond (eqb (length bytes) n) (Ok bytes) (Err why)
+
+-- by whether port, image length, thresholds length, checksum and thresholds' order are right: 1 to 5, the lowest number
+-- first
+abbrev pub creation_answer : (port image thresholds checksum ordered : Bool) → Answer (Unit {0})
+creation_answer port image thresholds checksum ordered =
+    cond (not port) (Err Port)
+    (cond (not image) (Err ImageLength)
+    (cond (not thresholds) (Err ThresholdsLength)
+    (cond (not checksum) (Err Checksum)
+    (cond (not ordered) (Err ThresholdOrder) (Ok tt)))))
 
 -- 1: port above 31; 2: image not 256 bytes; 3: thresholds not 40 bytes; 4: basic checksum wrong; 5: a quantity's
--- thresholds not in order. Refused, making gives the blank module
-unfoldable pub make : ℕ → List ℕ → List ℕ → Outcome
-make port image thresholds =
-    taken
-    (creation_answer (leb port 31) (eqb (length image) 256) (eqb (length thresholds) 40) (checksum_right image)
-    (ordered (thresholds_of thresholds)))
-    blank (fresh port image thresholds)
+-- thresholds not in order
+abbrev pub judged : (port : ℕ) (image thresholds : List ℕ) → Answer (Unit {0})
+judged port image thresholds =
+    creation_answer (leb port 31) (eqb (length image) 256) (eqb (length thresholds) 40) (checksum_right image)
+    (ordered (thresholds_of thresholds))
+
+-- the module, or the refusal
+abbrev pub granted : Answer (Unit {0}) → Module → Answer Module
+granted (Ok u) m = Ok m
+granted (Err why) m = Err why
+
+abbrev pub checked : (port : ℕ) (image thresholds : List ℕ) → Answer Module
+checked port image thresholds = granted (judged port image thresholds) (fresh port image thresholds)
+
+-- a fresh module; refused, making gives the blank module
+unfoldable pub make : ℕ → List ℕ → List ℕ → Outcome (Answer (Unit {0}))
+make port image thresholds = taken (judged port image thresholds) blank (fresh port image thresholds)

@@ -2,11 +2,10 @@
 #![tactic(auto)]
 
 ghost use Rattle.std.specs.Prelude.{◌≡◌};
-ghost use Rattle.xenpak.specs.Calls.{taken};
-ghost use Rattle.creation.specs.Creation.{Copied, fresh, blank, make};
+ghost use Rattle.creation.specs.Creation.{fresh, sized, checked, make};
 
 use alarms::Alarms;
-use answers::Answer;
+use answers::{Answer, Refusal};
 use bus::Bus;
 use differing::Differing;
 use jobs::Job;
@@ -14,21 +13,6 @@ use monitor::Monitor;
 use nvr::image::checksum_right;
 use thresholds::{ordered, thresholds_of};
 use xenpak::{Module, Outcome};
-
-// Copies bytes of the same length, and says whether they are; others are not copied.
-fn copied(bytes: &[u8], into: &mut [u8]) -> bool
-    ensures { Copied bytes.now into.old result into.new }
-{
-    if bytes.len() != into.len() {
-        return false;
-    }
-    let mut i = 0;
-    while i < into.len() {
-        into[i] = bytes[i];
-        i += 1;
-    }
-    true
-}
 
 // Off, with this store, counted beside a copy of zeros, and these thresholds; all else at zero.
 #[tactic(auto, unfolding(store::specs::Bytes::zeros))]
@@ -51,33 +35,45 @@ fn fresh(port: u8, store: [u8; 256], thresholds: [u8; 40]) -> Module
     }
 }
 
-// The module made; refused, the blank one: port 0, all bytes zero, off.
-#[tactic(auto, unfolding(store::specs::Bytes::zeros))]
-fn made(answer: Answer, next: Module) -> Outcome
-    ensures { result ≡ taken answer blank next }
+// The bytes as an array, or the refusal of their length.
+fn sized<const N: usize>(bytes: &[u8], why: Refusal) -> Answer<[u8; N]>
+    ensures { result ≡ sized N bytes.now why }
 {
-    match answer {
-        Answer::Accepted => Outcome {
-            next: next,
-            answer: answer,
-        },
-        Answer::Refused(_) => Outcome {
-            next: fresh(0, [0; 256], [0; 40]),
-            answer: answer,
-        },
-    }
+    <[u8; N]>::try_from(bytes).map_err(|_| why)
 }
 
-// A fresh module; refused by the lowest number that applies, the blank one.
-pub fn make(port: u8, image: &[u8], thresholds: &[u8]) -> Outcome
+// A fresh module, or the lowest number that refuses it.
+fn checked(port: u8, image: &[u8], thresholds: &[u8]) -> Answer<Module>
+    ensures { result ≡ checked port image.now thresholds.now }
+{
+    let low = port <= 31;
+    if !low {
+        return Err(Refusal::Port);
+    }
+    let store = sized::<256>(image, Refusal::ImageLength)?;
+    let codes = sized::<40>(thresholds, Refusal::ThresholdsLength)?;
+    if !checksum_right(&store) {
+        return Err(Refusal::Checksum);
+    }
+    if !ordered(thresholds_of(&codes)) {
+        return Err(Refusal::ThresholdOrder);
+    }
+    Ok(fresh(port, store, codes))
+}
+
+// A fresh module; refused by the lowest number that applies, the blank one: port 0, all bytes zero, off.
+#[tactic(auto, unfolding(crate::specs::Creation::make, store::specs::Bytes::zeros))]
+pub fn make(port: u8, image: &[u8], thresholds: &[u8]) -> Outcome<Answer<()>>
     ensures { result ≡ make port image.now thresholds.now }
 {
-    let mut store = [0; 256];
-    let mut codes = [0; 40];
-    let whole = copied(image, &mut store);
-    let table = copied(thresholds, &mut codes);
-    let right = checksum_right(&store);
-    let in_order = ordered(thresholds_of(&codes));
-    let answer = Answer::to_creation(port <= 31, whole, table, right, in_order);
-    made(answer, fresh(port, store, codes))
+    match checked(port, image, thresholds) {
+        Ok(next) => Outcome {
+            next: next,
+            answer: Ok(()),
+        },
+        Err(why) => Outcome {
+            next: fresh(0, [0; 256], [0; 40]),
+            answer: Err(why),
+        },
+    }
 }

@@ -21,13 +21,9 @@ use Rattle.store.specs.declared.Cut.{Cut}
 use Rattle.store.specs.declared.Cut.TheVariants.{Clean, Torn}
 use Rattle.store.proofs.Zeros.{zeros_at}
 use Rattle.differing.specs.Differing.{differing, differ, one, how_many, differ_at, differences, counts_of, recount, copied, stored, differing_ticked, differing_cut, differing_after, BurnsCustomer, WritesCustomer, CountsKept}
-use Rattle.differing.proofs.Counting.{bit, at_most}
+use Rattle.differing.proofs.Counting.{bit, at_most, alike}
 
 -- ---- a count when one of what is counted changes
-pub alike : (n : ℕ) (p q : ℕ → Bool) → ((i : ℕ) → i < n → p i ≡ q i) → how_many n p ≡ how_many n q
-alike zero p q e = refl
-alike (suc n) p q e = λ j. alike n p q (λ i h. e i (omega arith)) j + one (e n (omega arith) j)
-
 module _ (p q : ℕ → Bool) (k : ℕ) (same : (i : ℕ) → i ≢ k → p i ≡ q i) where
   above : (n : ℕ) → k < n → how_many n q + one (p k) ≡ how_many n p + one (q k)
   above zero h = absurd (omega arith)

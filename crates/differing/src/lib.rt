@@ -1,7 +1,7 @@
 // How many customer bytes of the store differ from the copy, and from zero, kept when a byte of store or copy changes.
 #![tactic(auto)]
 
-ghost use Rattle.std.specs.Prelude.{◌≡◌};
+ghost use Rattle.std.specs.Prelude.{◌≡◌, ◌≤◌, count_by, length};
 ghost use Rattle.store.specs.Bytes.{zeros};
 ghost use Rattle.differing.specs.Differing.{differ, counts_of, recount, copied, stored, loaded, differing_started, differing_ticked, differing_cut, differing_after};
 
@@ -24,30 +24,27 @@ pub struct Differing {
     pub zero: u8,
 }
 
-fn differ(a: u8, b: u8) -> bool
-    ensures { result ≡ differ a b }
+// How many bytes are not zero.
+fn not_zero(bytes: &[u8]) -> usize
+    ensures { (result ≡ count_by (λ b. differ b 0) bytes.now) × (result ≤ length bytes.now) }
 {
-    a != b
+    bytes.iter().filter(|byte| **byte != 0).count()
 }
 
 // A count when one customer byte changes: one less if it differed, one more if it differs now.
 fn recount(n: u8, was: bool, is: bool) -> u8
     ensures { result ≡ recount n was is }
 {
-    ((n as u16 + 256 + is as u16 - was as u16) % 256) as u8
+    n.wrapping_add(u8::from(is)).wrapping_sub(u8::from(was))
 }
 
 impl Differing {
     // Counted in a store, beside a copy of zeros.
+    #[tactic(auto, using(crate::proofs::Counting::from_zero))]
     pub fn of(store: &[u8; 256]) -> Differing
         ensures { result ≡ counts_of store.now (zeros 256) }
     {
-        let mut n: u8 = 0;
-        let mut i = 0;
-        while i < BYTES {
-            n = recount(n, false, differ(store[CUSTOMER + i], 0));
-            i += 1;
-        }
+        let n = not_zero(&store[CUSTOMER..CUSTOMER + BYTES]) as u8;
         Differing { copy: n, zero: n }
     }
 
@@ -68,7 +65,7 @@ impl Differing {
         let s = byte_at(store, offset);
         let c = byte_at(copy, offset);
         Differing {
-            copy: recount(self.copy, differ(s, c), differ(s, byte)),
+            copy: recount(self.copy, s != c, s != byte),
             zero: self.zero,
         }
     }
@@ -80,8 +77,8 @@ impl Differing {
         let s = byte_at(store, offset);
         let c = byte_at(copy, offset);
         Differing {
-            copy: recount(self.copy, differ(s, c), differ(byte, c)),
-            zero: recount(self.zero, differ(s, 0), differ(byte, 0)),
+            copy: recount(self.copy, s != c, byte != c),
+            zero: recount(self.zero, s != 0, byte != 0),
         }
     }
 
@@ -89,7 +86,7 @@ impl Differing {
     fn loaded(self, store: &[u8; 256], copy: &[u8; 256], due: u8) -> Differing
         ensures { result ≡ loaded self store.now copy.now due }
     {
-        if Region::of(due).is_customer() {
+        if Region::from(due).is_customer() {
             self.copied(store, copy, due, byte_at(store, due))
         } else {
             self

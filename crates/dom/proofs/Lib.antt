@@ -1,4 +1,3 @@
 -- Laws of `dom` that belong to no one function.
 pub mod Tenths
 pub mod Rounding
-pub mod Signed

@@ -8,9 +8,8 @@ use lib.IntN.{ℤ, pos, negsuc, nat_abs, ◌+ℤ◌, ◌*ℤ◌, neg_ℤ-+ℤ}
 use lib.Signed.{quot_z, rem_z, nat_abs-le}
 use mir.Syntax.{Width, w16, w32}
 use mir.Val.{SFits, to_z, of_z, hbits}
-use mir.Facts.{to_z-of_z}
+use mir.Facts.{to_z-of_z, sfits_widen}
 use Rattle.dom.specs.Readout.{signed_as}
-use Rattle.dom.proofs.Signed.{widened}
 
 -- x has the sign of the code and so many units
 pub record Sized (code x : ℤ) (n : ℕ) : Type 0 where
@@ -27,6 +26,10 @@ fits w {code = negsuc _} {n = suc n} s h = rw s.is (record { sfits = omega arith
 
 pub held : (w : Width) {code x : ℤ} {n : ℕ} → Sized code x n → n < 2 ^ hbits w → Sized code (to_z w (of_z w x)) n
 held w s h = record { is = to_z-of_z (fits w s h) ∙ s.is }
+
+-- an i16 as an i32
+widened : (z : ℤ) → SFits w16 z → to_z w32 (of_z w32 (to_z w16 (of_z w16 z))) ≡ z
+widened z h = rw (to_z-of_z h) (to_z-of_z (sfits_widen {w = w16} {w' = w32} tt h))
 
 -- ---- signed operations
 pub times : (code : ℤ) (k : ℕ) → SFits w16 code → Sized code (to_z w32 (of_z w32 (to_z w16 (of_z w16 code))) *ℤ pos k) (nat_abs code * k)

@@ -29,11 +29,7 @@ pub struct Sample {
 pub fn signed_code(code: u16) -> i16
     ensures { result ≡ signed_code code }
 {
-    if code < 0x8000 {
-        code as i16
-    } else {
-        (code as i32 - 0x10000) as i16
-    }
+    code.cast_signed()
 }
 
 impl Sample {

@@ -7,6 +7,8 @@ use Rattle.dom.specs.Codes.{temperature, bias, transmit, receive}
 use Rattle.thresholds.specs.Thresholds.{high_alarm, low_alarm, high_warning, low_warning}
 use Rattle.dom.specs.declared.Sample.{Sample}
 use Rattle.flags.specs.declared.Flags.{Flags}
+use Rattle.flags.specs.declared.Level.{Level}
+use Rattle.flags.specs.declared.Level.TheVariants.{Alarm, Warning}
 
 -- a flag is for a reading above its high threshold, or below its low one
 pub data Side : Type 0 where
@@ -22,6 +24,10 @@ alarm = columns high_alarm low_alarm
 
 abbrev pub warning : Side → ℕ
 warning = columns high_warning low_warning
+
+abbrev pub columns_of : Level → Side → ℕ
+columns_of Alarm = alarm
+columns_of Warning = warning
 
 -- a sample's codes, in the order of the quantities
 abbrev pub codes_of : Sample → List ℤ

@@ -1,12 +1,12 @@
 // The alarm and warning flags of a sample.
 #![tactic(auto)]
 
-ghost use Rattle.std.specs.Prelude.{◌≡◌, ◌≤◌};
+ghost use Rattle.std.specs.Prelude.{◌≡◌, pos, get_or};
+ghost use Rattle.std.specs.Int.Signed.{lt_z};
 ghost use Rattle.words.specs.Words.{of_bits};
-ghost use Rattle.flags.specs.Flags.{columns, codes_of, above, below, crossed, tx_bits, rx_bits, flags_of};
+ghost use Rattle.flags.specs.Flags.{high, low, columns_of, codes_of, crossed, tx_bits, rx_bits, flags_of};
 
 use dom::{BIAS, RECEIVE, Sample, TEMPERATURE, TRANSMIT};
-use thresholds::{HIGH_ALARM, HIGH_WARNING, LOW_ALARM, LOW_WARNING};
 use words::of_bits;
 
 // The words of A070, A071, A074 and A075 (MSA: TX_FLAG and RX_FLAG).
@@ -18,54 +18,67 @@ pub struct Flags {
     pub rxwarning: u16,
 }
 
-// Quantity q is above the threshold in a column.
-fn above(t: [[i32; 4]; 4], codes: [i32; 4], q: usize, column: usize) -> bool
-    requires { (q ≤ 3) × (column ≤ 3) }
-    ensures { result ≡ above t codes q column }
-{
-    t[q][column] < codes[q]
+// The level of a flag, by which its thresholds are chosen.
+#[derive(Clone, Copy)]
+enum Level {
+    Alarm,
+    Warning,
 }
 
-// Quantity q is below the threshold in a column.
-fn below(t: [[i32; 4]; 4], codes: [i32; 4], q: usize, column: usize) -> bool
-    requires { (q ≤ 3) × (column ≤ 3) }
-    ensures { result ≡ below t codes q column }
+// A code is above the level's high threshold of its quantity's row.
+fn above(row: [i32; 4], code: i32, level: Level) -> bool
+    ensures { result ≡ lt_z (get_or row (columns_of level high) (pos 0)) code }
 {
-    codes[q] < t[q][column]
+    let [high_alarm, _, high_warning, _] = row;
+    let threshold = match level {
+        Level::Alarm => high_alarm,
+        Level::Warning => high_warning,
+    };
+    threshold < code
 }
 
-// A070 or A074, by the columns of the level's thresholds.
-fn tx_flags(t: [[i32; 4]; 4], codes: [i32; 4], high: usize, low: usize) -> u16
-    requires { (high ≤ 3) × (low ≤ 3) }
-    ensures { result ≡ of_bits (tx_bits (crossed t codes (columns high low))) }
+// A code is below the level's low threshold of its quantity's row.
+fn below(row: [i32; 4], code: i32, level: Level) -> bool
+    ensures { result ≡ lt_z code (get_or row (columns_of level low) (pos 0)) }
 {
-    of_bits(
-        below(t, codes, TRANSMIT, low),
-        above(t, codes, TRANSMIT, high),
-        below(t, codes, BIAS, low),
-        above(t, codes, BIAS, high),
-        false,
-        false,
-        below(t, codes, TEMPERATURE, low),
-        above(t, codes, TEMPERATURE, high),
-    )
+    let [_, low_alarm, _, low_warning] = row;
+    let threshold = match level {
+        Level::Alarm => low_alarm,
+        Level::Warning => low_warning,
+    };
+    code < threshold
 }
 
-// A071 or A075, by the columns of the level's thresholds.
-fn rx_flags(t: [[i32; 4]; 4], codes: [i32; 4], high: usize, low: usize) -> u16
-    requires { (high ≤ 3) × (low ≤ 3) }
-    ensures { result ≡ of_bits (rx_bits (crossed t codes (columns high low))) }
+// A070 or A074, by the level.
+fn tx_flags(t: [[i32; 4]; 4], codes: [i32; 4], level: Level) -> u16
+    ensures { result ≡ of_bits (tx_bits (crossed t codes (columns_of level))) }
 {
-    of_bits(
+    of_bits([
+        below(t[TRANSMIT], codes[TRANSMIT], level),
+        above(t[TRANSMIT], codes[TRANSMIT], level),
+        below(t[BIAS], codes[BIAS], level),
+        above(t[BIAS], codes[BIAS], level),
+        false,
+        false,
+        below(t[TEMPERATURE], codes[TEMPERATURE], level),
+        above(t[TEMPERATURE], codes[TEMPERATURE], level),
+    ])
+}
+
+// A071 or A075, by the level.
+fn rx_flags(t: [[i32; 4]; 4], codes: [i32; 4], level: Level) -> u16
+    ensures { result ≡ of_bits (rx_bits (crossed t codes (columns_of level))) }
+{
+    of_bits([
         false,
         false,
         false,
         false,
         false,
         false,
-        below(t, codes, RECEIVE, low),
-        above(t, codes, RECEIVE, high),
-    )
+        below(t[RECEIVE], codes[RECEIVE], level),
+        above(t[RECEIVE], codes[RECEIVE], level),
+    ])
 }
 
 // A sample's codes, in the order of the quantities.
@@ -73,10 +86,10 @@ fn codes_of(s: Sample) -> [i32; 4]
     ensures { result ≡ codes_of s }
 {
     [
-        s.temperature as i32,
-        s.bias as i32,
-        s.transmit as i32,
-        s.receive as i32,
+        i32::from(s.temperature),
+        i32::from(s.bias),
+        i32::from(s.transmit),
+        i32::from(s.receive),
     ]
 }
 
@@ -87,9 +100,9 @@ pub fn flags_of(t: [[i32; 4]; 4], s: Sample) -> Flags
 {
     let codes = codes_of(s);
     Flags {
-        txalarm: tx_flags(t, codes, HIGH_ALARM, LOW_ALARM),
-        rxalarm: rx_flags(t, codes, HIGH_ALARM, LOW_ALARM),
-        txwarning: tx_flags(t, codes, HIGH_WARNING, LOW_WARNING),
-        rxwarning: rx_flags(t, codes, HIGH_WARNING, LOW_WARNING),
+        txalarm: tx_flags(t, codes, Level::Alarm),
+        rxalarm: rx_flags(t, codes, Level::Alarm),
+        txwarning: tx_flags(t, codes, Level::Warning),
+        rxwarning: rx_flags(t, codes, Level::Warning),
     }
 }

@@ -10,15 +10,14 @@ use mathlib.Core.Path.{◌≡◌, refl, sym, ap, ◌∙◌}
 use lib.Dec.{eqb, leb, ltb, lit<, lit≤}
 use lib.ListN.{length, get_or, take, replicate}
 use lib.Seq.{take-take, get_or-take}
+use Rattle.std.specs.Prelude.{Ok}
 use Rattle.nvr.specs.Image.{sum, checksum_right}
 use Rattle.thresholds.specs.Thresholds.{thresholds_of, ordered}
 use Rattle.store.specs.Bytes.{zeros}
-use Rattle.answers.specs.Answers.{said_plain, creation_answer}
-use Rattle.answers.specs.declared.Answer.{Answer}
-use Rattle.answers.specs.declared.Answer.TheVariants.{Accepted}
+use Rattle.answers.specs.Answers.{Answer, said_plain}
 use Rattle.xenpak.specs.Calls.{kept}
 use Rattle.xenpak.specs.declared.Module.{Module}
-use Rattle.creation.specs.Creation.{fresh, blank, make}
+use Rattle.creation.specs.Creation.{creation_answer, fresh, blank, make}
 use Rattle.guarantees.specs.Behaviour.{says, refused, sum_to, make_refusal, make_said}
 
 -- ---- the code's five tests: what is wrong
@@ -44,8 +43,8 @@ given m true true true true false = refl
 given m true true true true true = refl
 
 -- what holds of an accepted making
-pub record Taken (answer : Answer) (image : Bool) : Type 0 where
-  pub accepted : answer ≡ Accepted
+pub record Taken (answer : Answer (Unit {0})) (image : Bool) : Type 0 where
+  pub accepted : answer ≡ Ok tt
   pub size : image ≡ true
 
 none_wrong : {A : Type 0} (n : ℕ) → suc n ≡ 0 → A
@@ -124,7 +123,7 @@ module _ (port : ℕ) (image t : List ℕ) where
   unfolding make
   make-taken e = taken (leb port 31) (eqb (length image) 256) (eqb (length t) 40) (checksum_right image) (ordered (thresholds_of t)) (number_is ∙ e)
 
-  pub make-accepted : make_refusal port image t ≡ 0 → (make port image t).answer ≡ Accepted
+  pub make-accepted : make_refusal port image t ≡ 0 → (make port image t).answer ≡ Ok tt
   make-accepted e = (make-taken e).accepted
 
   pub make-size : make_refusal port image t ≡ 0 → length image ≡ 256

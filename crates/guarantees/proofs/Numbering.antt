@@ -1,24 +1,19 @@
 -- Each call gets an answer of its kind, and what is said of an answer tells it.
 -- Assumes nothing.
-use Prim.Native.Nat.{◌-◌}
+use Prim.Native.Nat.{ℕ, ◌-◌}
 use mathlib.Core.Path.{◌≡◌, refl, ap}
 use lib.ListN.{get_or}
-use Rattle.answers.specs.Answers.{refusal_number, said_plain, said_frame, said_tick, said_settle, said_unsaved}
+use Rattle.std.specs.Prelude.{Ok, Err}
+use Rattle.answers.specs.Answers.{Answer, refusal_number, said_plain, said_frame, said_tick, said_settle}
 use Rattle.answers.specs.declared.Refusal.{Refusal}
 use Rattle.answers.specs.declared.Refusal.TheVariants.{Port, ImageLength, ThresholdsLength, Checksum, ThresholdOrder, Temperature, PoweredOff, PoweredOn}
-use Rattle.answers.specs.declared.Answer.{Answer}
-use Rattle.answers.specs.declared.Answer.TheVariants as plain
 use Rattle.answers.specs.declared.FrameAnswer.{FrameAnswer}
 use Rattle.answers.specs.declared.FrameAnswer.TheVariants as frame
 use Rattle.answers.specs.declared.TickAnswer.{TickAnswer}
 use Rattle.answers.specs.declared.TickAnswer.TheVariants as tick
-use Rattle.answers.specs.declared.SettleAnswer.{SettleAnswer}
-use Rattle.answers.specs.declared.SettleAnswer.TheVariants as settle
-use Rattle.answers.specs.declared.UnsavedAnswer.{UnsavedAnswer}
-use Rattle.answers.specs.declared.UnsavedAnswer.TheVariants as unsaved
 use Rattle.calls.specs.Calls.{step}
 use Rattle.calls.specs.declared.Call.TheVariants as call
-use Rattle.guarantees.specs.Guarantees.{Kinds, refusals, plain_told, frame_told, tick_told, settle_told, unsaved_told, Numbered}
+use Rattle.guarantees.specs.Guarantees.{Kinds, refusals, plain_told, frame_told, tick_told, count_told, Numbered}
 
 pub kinds : Kinds
 unfolding step
@@ -41,30 +36,26 @@ refusal-told PoweredOff = refl
 refusal-told PoweredOn = refl
 
 pub numbered : Numbered
-numbered = record { plain = plains; frames = frames; ticks = ticks; settling = settlings; unsaved = unsaveds }
+numbered = record { plain = plains; frames = frames; ticks = ticks; settling = counts; unsaved = counts }
   where
-    plains : (a : Answer) → plain_told (said_plain a) ≡ a
-    plains plain.Accepted = refl
-    plains (plain.Refused why) = ap plain.Refused (refusal-told why)
+    plains : (a : Answer (Unit {0})) → plain_told (said_plain a) ≡ a
+    plains (Ok u) = refl
+    plains (Err why) = ap Err (refusal-told why)
 
-    frames : (a : FrameAnswer) → frame_told (said_frame a) ≡ a
-    frames frame.Silent = refl
-    frames frame.Set = refl
-    frames frame.Written = refl
-    frames frame.Dropped = refl
-    frames (frame.Data value) = refl
-    frames (frame.Refused why) = ap frame.Refused (refusal-told why)
+    frames : (a : Answer FrameAnswer) → frame_told (said_frame a) ≡ a
+    frames (Ok frame.Silent) = refl
+    frames (Ok frame.Set) = refl
+    frames (Ok frame.Written) = refl
+    frames (Ok frame.Dropped) = refl
+    frames (Ok (frame.Data value)) = refl
+    frames (Err why) = ap Err (refusal-told why)
 
-    ticks : (a : TickAnswer) → tick_told (said_tick a) ≡ a
-    ticks tick.Nothing = refl
-    ticks (tick.Loaded offset byte) = refl
-    ticks (tick.Burned offset byte) = refl
-    ticks (tick.Refused why) = ap tick.Refused (refusal-told why)
+    ticks : (a : Answer TickAnswer) → tick_told (said_tick a) ≡ a
+    ticks (Ok tick.Nothing) = refl
+    ticks (Ok (tick.Loaded offset byte)) = refl
+    ticks (Ok (tick.Burned offset byte)) = refl
+    ticks (Err why) = ap Err (refusal-told why)
 
-    settlings : (a : SettleAnswer) → settle_told (said_settle a) ≡ a
-    settlings (settle.Ticks count) = refl
-    settlings (settle.Refused why) = ap settle.Refused (refusal-told why)
-
-    unsaveds : (a : UnsavedAnswer) → unsaved_told (said_unsaved a) ≡ a
-    unsaveds (unsaved.Bytes count) = refl
-    unsaveds (unsaved.Refused why) = ap unsaved.Refused (refusal-told why)
+    counts : (a : Answer ℕ) → count_told (said_settle a) ≡ a
+    counts (Ok count) = refl
+    counts (Err why) = ap Err (refusal-told why)

@@ -6,16 +6,16 @@ use mathlib.Core.List.{[], ◌∷◌}
 use mathlib.Core.Path.{◌≡◌, refl, ap, ◌∙◌}
 use lib.Dec.{eqb}
 use lib.ListN.{replicate}
+use Rattle.std.specs.Prelude.{Err}
 use Rattle.jobs.specs.declared.Job.{Job}
-use Rattle.answers.specs.Answers.{said_settle}
+use Rattle.answers.specs.Answers.{Answer, said_settle}
 use Rattle.answers.specs.declared.Refusal.TheVariants.{PoweredOff}
-use Rattle.answers.specs.declared.SettleAnswer.TheVariants.{Refused}
 use Rattle.xenpak.specs.Calls.{tick}
 use Rattle.xenpak.specs.declared.Module.{Module}
 use Rattle.calls.specs.Calls.{step, run}
 use Rattle.calls.specs.declared.Call.TheVariants.{Tick}
 use Rattle.settling.specs.Settling.{ticks, due, settled, settle}
-use Rattle.settling.specs.declared.SettleOutcome.{SettleOutcome}
+use Rattle.xenpak.specs.declared.Outcome.{Outcome}
 use Rattle.guarantees.specs.Reference as job
 use Rattle.guarantees.specs.Behaviour.{says, refused, ticks_due, settle_count, settle_said}
 use Rattle.guarantees.proofs.Transition.{job_ref, reference_of}
@@ -40,8 +40,8 @@ due_is j = go (eqb j.kind 0) (eqb j.kind 2)
     go false false = refl
 
 module _ (m : Module) (budget : ℕ) where
-  abbrev outcome : Bool → SettleOutcome
-  outcome powered = cond powered (settled m budget) (record { next = m; answer = Refused PoweredOff })
+  abbrev outcome : Bool → Outcome (Answer ℕ)
+  outcome powered = cond powered (settled m budget) (record { next = m; answer = Err PoweredOff })
 
   abbrev count : ℕ
   count = min budget (ticks_due (job_ref m.job))

@@ -5,6 +5,7 @@ use native.Mathlib.Omega.{arith}
 use mathlib.Core.Bool.{Bool, true, false}
 use mathlib.Core.Logic.{◌≢◌}
 use mathlib.Core.Path.{◌≡◌, refl, ap}
+use Rattle.std.specs.Prelude.{Ok, Err}
 use Rattle.action.specs.Action.{action_of}
 use Rattle.action.specs.declared.Action.{Action}
 use Rattle.action.specs.declared.Action.TheVariants as action
@@ -15,12 +16,10 @@ use Rattle.work.specs.declared.Work.TheVariants as work
 use Rattle.dom.specs.Codes.{acceptable}
 use Rattle.calls.specs.Calls.{said, step}
 use Rattle.xenpak.specs.Frame.{frame, module_after}
-use Rattle.answers.specs.Answers.{power_on_answer, call_answer, frame_answer}
+use Rattle.answers.specs.Answers.{Answer, power_on_answer, call_answer, frame_answer}
 use Rattle.store.specs.Bytes.{tick_answer}
 use Rattle.xenpak.specs.Calls as calls
 use Rattle.xenpak.specs.Calls.{kept, tick_by}
-use Rattle.answers.specs.declared.Answer.{Answer}
-use Rattle.answers.specs.declared.Answer.TheVariants as plain
 use Rattle.answers.specs.declared.FrameAnswer.TheVariants as frame-answer
 use Rattle.answers.specs.declared.TickAnswer.TheVariants as tick-answer
 use Rattle.calls.specs.declared.CallAnswer.{CallAnswer}
@@ -32,18 +31,18 @@ use Rattle.guarantees.specs.Guarantees.{RefusedUnchanged, SilentUnchanged, Dropp
 
 -- the answers that leave the record
 abbrev leaves : CallAnswer → Bool
-leaves (Plain plain.Accepted) = false
-leaves (Plain (plain.Refused why)) = true
-leaves (Frame frame-answer.Silent) = true
-leaves (Frame frame-answer.Set) = false
-leaves (Frame frame-answer.Written) = false
-leaves (Frame frame-answer.Dropped) = true
-leaves (Frame (frame-answer.Data value)) = false
-leaves (Frame (frame-answer.Refused why)) = true
-leaves (Tick tick-answer.Nothing) = false
-leaves (Tick (tick-answer.Loaded offset byte)) = false
-leaves (Tick (tick-answer.Burned offset byte)) = false
-leaves (Tick (tick-answer.Refused why)) = true
+leaves (Plain (Ok u)) = false
+leaves (Plain (Err why)) = true
+leaves (Frame (Ok frame-answer.Silent)) = true
+leaves (Frame (Ok frame-answer.Set)) = false
+leaves (Frame (Ok frame-answer.Written)) = false
+leaves (Frame (Ok frame-answer.Dropped)) = true
+leaves (Frame (Ok (frame-answer.Data value))) = false
+leaves (Frame (Err why)) = true
+leaves (Tick (Ok tick-answer.Nothing)) = false
+leaves (Tick (Ok (tick-answer.Loaded offset byte))) = false
+leaves (Tick (Ok (tick-answer.Burned offset byte))) = false
+leaves (Tick (Err why)) = true
 
 not_so : {A : Type 0} → false ≡ true → A
 not_so e = absurd (let z : ◌≡◌ {A = ℕ} 0 1 = cc in omega arith)
@@ -65,9 +64,9 @@ by_tick m work.Nothing e = not_so e
 by_tick m (work.Load offset) e = not_so e
 by_tick m (work.Burn offset) e = not_so e
 
-by_answer : (m n : Module) (a : Answer) → leaves (Plain a) ≡ true → kept a m n ≡ m
-by_answer m n plain.Accepted e = not_so e
-by_answer m n (plain.Refused why) e = refl
+by_answer : (m n : Module) (a : Answer (Unit {0})) → leaves (Plain a) ≡ true → kept a m n ≡ m
+by_answer m n (Ok u) e = not_so e
+by_answer m n (Err why) e = refl
 
 unchanged : (m : Module) (c : Call) → leaves (step m c).answer ≡ true → (step m c).next ≡ m
 unfolding step calls.power_on calls.power_cut calls.reset_pin calls.tick calls.lines calls.sample frame
@@ -80,18 +79,18 @@ unchanged m (call.Lines l) e = by_answer m _ (call_answer m.powered true) e
 unchanged m (call.Sample s) e = by_answer m _ (call_answer m.powered (acceptable s.temperature)) e
 
 refused_leaves : (a : CallAnswer) → (said a).refusal ≢ 0 → leaves a ≡ true
-refused_leaves (Plain plain.Accepted) f = absurd (f refl)
-refused_leaves (Plain (plain.Refused why)) f = refl
-refused_leaves (Frame frame-answer.Silent) f = refl
-refused_leaves (Frame frame-answer.Set) f = absurd (f refl)
-refused_leaves (Frame frame-answer.Written) f = absurd (f refl)
-refused_leaves (Frame frame-answer.Dropped) f = refl
-refused_leaves (Frame (frame-answer.Data value)) f = absurd (f refl)
-refused_leaves (Frame (frame-answer.Refused why)) f = refl
-refused_leaves (Tick tick-answer.Nothing) f = absurd (f refl)
-refused_leaves (Tick (tick-answer.Loaded offset byte)) f = absurd (f refl)
-refused_leaves (Tick (tick-answer.Burned offset byte)) f = absurd (f refl)
-refused_leaves (Tick (tick-answer.Refused why)) f = refl
+refused_leaves (Plain (Ok u)) f = absurd (f refl)
+refused_leaves (Plain (Err why)) f = refl
+refused_leaves (Frame (Ok frame-answer.Silent)) f = refl
+refused_leaves (Frame (Ok frame-answer.Set)) f = absurd (f refl)
+refused_leaves (Frame (Ok frame-answer.Written)) f = absurd (f refl)
+refused_leaves (Frame (Ok frame-answer.Dropped)) f = refl
+refused_leaves (Frame (Ok (frame-answer.Data value))) f = absurd (f refl)
+refused_leaves (Frame (Err why)) f = refl
+refused_leaves (Tick (Ok tick-answer.Nothing)) f = absurd (f refl)
+refused_leaves (Tick (Ok (tick-answer.Loaded offset byte))) f = absurd (f refl)
+refused_leaves (Tick (Ok (tick-answer.Burned offset byte))) f = absurd (f refl)
+refused_leaves (Tick (Err why)) f = refl
 
 pub refused_unchanged : RefusedUnchanged
 refused_unchanged m c f = unchanged m c (refused_leaves (step m c).answer f)

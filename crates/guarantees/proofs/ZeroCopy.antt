@@ -5,6 +5,7 @@ use Prim.Native.Nat.{ℕ}
 use native.Mathlib.Omega.{arith}
 use mathlib.Core.Bool.{Bool, true, false, cond}
 use mathlib.Core.Path.{◌≡◌, sym, subst}
+use Rattle.std.specs.Prelude.{Ok}
 use Rattle.words.specs.Words.{bit}
 use Rattle.mdio.specs.Frame.{request_of}
 use Rattle.mdio.specs.declared.Request.{Request}
@@ -18,9 +19,7 @@ use Rattle.store.specs.Bytes.{written_copy}
 use Rattle.store.proofs.Zeros.{zeros_at}
 use Rattle.alarms.specs.Alarms.{no_alarms, restarted}
 use Rattle.alarms.specs.declared.Alarms.{Alarms}
-use Rattle.answers.specs.Answers.{power_on_answer, call_answer, frame_answer}
-use Rattle.answers.specs.declared.Answer.{Answer}
-use Rattle.answers.specs.declared.Answer.TheVariants.{Accepted}
+use Rattle.answers.specs.Answers.{Answer, power_on_answer, call_answer, frame_answer}
 use Rattle.answers.specs.declared.FrameAnswer.TheVariants.{Written}
 use Rattle.values.specs.Values.{register_of}
 use Rattle.xenpak.specs.Frame.{value_at, frame}
@@ -29,13 +28,13 @@ use Rattle.xenpak.specs.declared.Module.{Module}
 use Rattle.guarantees.specs.Guarantees.{Zeros, ZeroCopy}
 
 -- a start that is accepted
-start_zeros : (m : Module) (powered : Bool) (x : Alarms) (a : Answer) → a ≡ Accepted → Zeros (kept a m (started powered x m)).copy
-start_zeros m powered x a e = subst (λ (a : Answer). Zeros (kept a m (started powered x m)).copy) (sym e) (zeros_at 256)
+start_zeros : (m : Module) (powered : Bool) (x : Alarms) (a : Answer (Unit {0})) → a ≡ Ok tt → Zeros (kept a m (started powered x m)).copy
+start_zeros m powered x a e = subst (λ (a : Answer (Unit {0})). Zeros (kept a m (started powered x m)).copy) (sym e) (zeros_at 256)
 
 -- a frame at 0000 that is written
 module _ (m : Module) where
   abbrev At0000 : Action → Type 0
-  At0000 a = frame_answer a (value_at m (register_of a)) ≡ Written → Zeros (written_copy m.copy a)
+  At0000 a = frame_answer a (value_at m (register_of a)) ≡ Ok Written → Zeros (written_copy m.copy a)
 
   reset-or_dropped : (b : Bool) → At0000 (cond b action.Reset action.Dropped)
   reset-or_dropped true e = zeros_at 256

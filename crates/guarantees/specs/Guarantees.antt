@@ -1,26 +1,15 @@
 -- What is guaranteed: demands 2 and 3 as statements about whole lists of calls, and what goes beyond them.
 -- Assumes nothing.
-use Rattle.std.specs.Prelude.{ℕ, ◌-◌, ◌<◌, false, cond, List, [], ◌∷◌, ◌++◌, ◌≢◌, ◌≡◌, ℤ, length, get_or, set, replicate}
+use Rattle.std.specs.Prelude.{ℕ, ◌-◌, ◌<◌, false, cond, List, [], ◌∷◌, ◌++◌, map, ◌≢◌, ◌≡◌, ℤ, length, get_or, set, replicate, Ok, Err}
 use Rattle.store.specs.declared.Cut.TheVariants.{Clean}
 use Rattle.dom.specs.Readout.{tenths_of}
-use Rattle.answers.specs.Answers.{Said, said_plain, said_frame, said_tick, said_settle, said_unsaved}
+use Rattle.answers.specs.Answers.{Answer, Said, said_plain, said_frame, said_tick, said_settle, said_unsaved}
 use Rattle.answers.specs.declared.Refusal.{Refusal}
 use Rattle.answers.specs.declared.Refusal.TheVariants.{Port, ImageLength, ThresholdsLength, Checksum, ThresholdOrder, Temperature, PoweredOff, PoweredOn}
-use Rattle.answers.specs.declared.Answer.{Answer}
-use Rattle.answers.specs.declared.Answer.TheVariants.{Accepted}
-use Rattle.answers.specs.declared.Answer.TheVariants as to_call
 use Rattle.answers.specs.declared.FrameAnswer.{FrameAnswer}
 use Rattle.answers.specs.declared.FrameAnswer.TheVariants.{Silent, Set, Written, Dropped, Data}
-use Rattle.answers.specs.declared.FrameAnswer.TheVariants as to_frame
 use Rattle.answers.specs.declared.TickAnswer.{TickAnswer}
 use Rattle.answers.specs.declared.TickAnswer.TheVariants.{Nothing, Loaded, Burned}
-use Rattle.answers.specs.declared.TickAnswer.TheVariants as to_tick
-use Rattle.answers.specs.declared.SettleAnswer.{SettleAnswer}
-use Rattle.answers.specs.declared.SettleAnswer.TheVariants.{Ticks}
-use Rattle.answers.specs.declared.SettleAnswer.TheVariants as to_settle
-use Rattle.answers.specs.declared.UnsavedAnswer.{UnsavedAnswer}
-use Rattle.answers.specs.declared.UnsavedAnswer.TheVariants.{Bytes}
-use Rattle.answers.specs.declared.UnsavedAnswer.TheVariants as to_unsaved
 use Rattle.xenpak.specs.Calls.{power_on, reset_pin, tick}
 use Rattle.xenpak.specs.Frame.{frame}
 use Rattle.xenpak.specs.declared.Module.{Module}
@@ -96,7 +85,7 @@ pub record TwoRuns (port : ℕ) (image thresholds : List ℕ) (a b : Module) (ca
   pub size : length (run a calls).store ≡ 256
   pub customer : (i : ℕ) → customer_offset i ≡ false → get_or (run a calls).store i 0 ≡ get_or image i 0
   -- b's making is accepted
-  pub made : (make port (burned port image calls) thresholds).answer ≡ Accepted
+  pub made : (make port (burned port image calls) thresholds).answer ≡ Ok tt
   -- a clean cut of a if it is powered, then power-on of both: the records are equal
   pub same : cycled a calls ≡ run b (PowerOn ∷ [])
   -- then every later list gets equal answers, and at its start and after each call equal line, counter, store and count of
@@ -131,15 +120,15 @@ abbrev pub RefusedUnchanged : Type 0
 RefusedUnchanged = (m : Module) (c : Call) → (said (step m c).answer).refusal ≢ 0 → (step m c).next ≡ m
 
 abbrev pub SilentUnchanged : Type 0
-SilentUnchanged = (m : Module) (c : Call) → (step m c).answer ≡ answer.Frame Silent → (step m c).next ≡ m
+SilentUnchanged = (m : Module) (c : Call) → (step m c).answer ≡ answer.Frame (Ok Silent) → (step m c).next ≡ m
 
 abbrev pub DroppedUnchanged : Type 0
-DroppedUnchanged = (m : Module) (c : Call) → (step m c).answer ≡ answer.Frame Dropped → (step m c).next ≡ m
+DroppedUnchanged = (m : Module) (c : Call) → (step m c).answer ≡ answer.Frame (Ok Dropped) → (step m c).next ≡ m
 
 -- a tick did what it answers, whatever the record holds: loaded, the copy has that byte at that offset; burned, the store
 pub record TickTells (m : Module) : Type 0 where
-  pub loaded : (o b : ℕ) → (tick m).answer ≡ Loaded o b → ((tick m).next.copy ≡ set m.copy o b) × ((tick m).next.store ≡ m.store)
-  pub burned : (o b : ℕ) → (tick m).answer ≡ Burned o b → ((tick m).next.store ≡ set m.store o b) × ((tick m).next.copy ≡ m.copy)
+  pub loaded : (o b : ℕ) → (tick m).answer ≡ Ok (Loaded o b) → ((tick m).next.copy ≡ set m.copy o b) × ((tick m).next.store ≡ m.store)
+  pub burned : (o b : ℕ) → (tick m).answer ≡ Ok (Burned o b) → ((tick m).next.store ≡ set m.store o b) × ((tick m).next.copy ≡ m.copy)
 
 -- the copy begins as 256 zeros: after power-on, the reset pin and a write taken at 0000 there is a byte at each offset, and
 -- it is 0, whatever the default for where there is none
@@ -147,9 +136,9 @@ abbrev pub Zeros : List ℕ → Type 0
 Zeros copy = (i default : ℕ) → i < 256 → get_or copy i default ≡ 0
 
 pub record ZeroCopy (m : Module) : Type 0 where
-  pub at_power_on : (power_on m).answer ≡ Accepted → Zeros (power_on m).next.copy
-  pub at_reset_pin : (reset_pin m).answer ≡ Accepted → Zeros (reset_pin m).next.copy
-  pub at_reset_frame : (word : ℕ) → m.bus.address ≡ 0 → (frame m word).answer ≡ Written → Zeros (frame m word).next.copy
+  pub at_power_on : (power_on m).answer ≡ Ok tt → Zeros (power_on m).next.copy
+  pub at_reset_pin : (reset_pin m).answer ≡ Ok tt → Zeros (reset_pin m).next.copy
+  pub at_reset_frame : (word : ℕ) → m.bus.address ≡ 0 → (frame m word).answer ≡ Ok Written → Zeros (frame m word).next.copy
 
 -- a frame gets a frame's answer, a tick a tick's, every other call a plain one
 pub data Kind : Type 0 where
@@ -178,32 +167,30 @@ abbrev pub refusals : List Refusal
 refusals = Port ∷ ImageLength ∷ ThresholdsLength ∷ Checksum ∷ ThresholdOrder ∷ Temperature ∷ PoweredOff ∷ PoweredOn ∷ []
 
 -- a refusal, or one of the answers to a call of a kind, from 1, with the values said
-abbrev pub told : {A : Type 0} → (Refusal → A) → ((value : ℕ → ℕ) → List A) → Said → A
-told refused answers s =
-    get_or (refused (get_or refusals (s.refusal - 1) Port) ∷ answers (λ i. get_or s.values i 0)) s.which (refused Port)
+abbrev pub told : {A : Type 0} → ((value : ℕ → ℕ) → List A) → Said → Answer A
+told given s =
+    get_or (Err (get_or refusals (s.refusal - 1) Port) ∷ map Ok (given (λ i. get_or s.values i 0))) s.which (Err Port)
 
-abbrev pub plain_told : Said → Answer
-plain_told = told to_call.Refused (λ value. Accepted ∷ [])
+abbrev pub plain_told : Said → Answer (Unit {0})
+plain_told = told (λ value. tt ∷ [])
 
-abbrev pub frame_told : Said → FrameAnswer
-frame_told = told to_frame.Refused (λ value. Silent ∷ Set ∷ Written ∷ Dropped ∷ Data (value 0) ∷ [])
+abbrev pub frame_told : Said → Answer FrameAnswer
+frame_told = told (λ value. Silent ∷ Set ∷ Written ∷ Dropped ∷ Data (value 0) ∷ [])
 
-abbrev pub tick_told : Said → TickAnswer
-tick_told = told to_tick.Refused (λ value. Nothing ∷ Loaded (value 0) (value 1) ∷ Burned (value 0) (value 1) ∷ [])
+abbrev pub tick_told : Said → Answer TickAnswer
+tick_told = told (λ value. Nothing ∷ Loaded (value 0) (value 1) ∷ Burned (value 0) (value 1) ∷ [])
 
-abbrev pub settle_told : Said → SettleAnswer
-settle_told = told to_settle.Refused (λ value. Ticks (value 0) ∷ [])
-
-abbrev pub unsaved_told : Said → UnsavedAnswer
-unsaved_told = told to_unsaved.Refused (λ value. Bytes (value 0) ∷ [])
+-- the count
+abbrev pub count_told : Said → Answer ℕ
+count_told = told (λ value. value 0 ∷ [])
 
 -- so no two answers of a kind are said alike
 pub record Numbered : Type 0 where
-  pub plain : (a : Answer) → plain_told (said_plain a) ≡ a
-  pub frames : (a : FrameAnswer) → frame_told (said_frame a) ≡ a
-  pub ticks : (a : TickAnswer) → tick_told (said_tick a) ≡ a
-  pub settling : (a : SettleAnswer) → settle_told (said_settle a) ≡ a
-  pub unsaved : (a : UnsavedAnswer) → unsaved_told (said_unsaved a) ≡ a
+  pub plain : (a : Answer (Unit {0})) → plain_told (said_plain a) ≡ a
+  pub frames : (a : Answer FrameAnswer) → frame_told (said_frame a) ≡ a
+  pub ticks : (a : Answer TickAnswer) → tick_told (said_tick a) ≡ a
+  pub settling : (a : Answer ℕ) → count_told (said_settle a) ≡ a
+  pub unsaved : (a : Answer ℕ) → count_told (said_unsaved a) ≡ a
 
 -- ---- the readout of every temperature code
 abbrev pub Readout : Type 0

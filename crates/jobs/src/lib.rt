@@ -56,44 +56,6 @@ impl Job {
         kind: FIRST,
     };
 
-    // The job of a command.
-    fn by(command: Command) -> Job
-        ensures { result ≡ command_job command }
-    {
-        match command {
-            Command::LoadAll => Job {
-                due: 0,
-                last: LAST,
-                ended: 0,
-                kind: LOAD,
-            },
-            Command::LoadByte(offset) => Job {
-                due: offset,
-                last: offset,
-                ended: 0,
-                kind: LOAD,
-            },
-            Command::BurnCustomer => Job {
-                due: CUSTOMER,
-                last: CUSTOMER_LAST,
-                ended: 0,
-                kind: BURN,
-            },
-            Command::BurnByte(offset) => Job {
-                due: offset,
-                last: offset,
-                ended: 0,
-                kind: BURN,
-            },
-            Command::Failed => Job {
-                due: 0,
-                last: 0,
-                ended: 3,
-                kind: NONE,
-            },
-        }
-    }
-
     pub fn busy(self) -> bool
         ensures { result ≡ is_busy self }
     {
@@ -144,9 +106,49 @@ impl Job {
     {
         match action {
             Action::Reset => Job::FIRST_LOAD,
-            Action::Command(word) => Job::by(Command::of(word)),
+            Action::Command(word) => Job::from(Command::from(word)),
             Action::Read(register, _) => self.after_read(register),
             _ => self,
+        }
+    }
+}
+
+impl From<Command> for Job {
+    // The job of a command.
+    fn from(command: Command) -> Job
+        ensures { result ≡ command_job command }
+    {
+        match command {
+            Command::LoadAll => Job {
+                due: 0,
+                last: LAST,
+                ended: 0,
+                kind: LOAD,
+            },
+            Command::LoadByte(offset) => Job {
+                due: offset,
+                last: offset,
+                ended: 0,
+                kind: LOAD,
+            },
+            Command::BurnCustomer => Job {
+                due: CUSTOMER,
+                last: CUSTOMER_LAST,
+                ended: 0,
+                kind: BURN,
+            },
+            Command::BurnByte(offset) => Job {
+                due: offset,
+                last: offset,
+                ended: 0,
+                kind: BURN,
+            },
+            Command::Failed => Job {
+                due: 0,
+                last: 0,
+                ended: 3,
+                kind: NONE,
+            },
         }
     }
 }

@@ -1,38 +1,43 @@
 // What the alarm registers read, and the link status alarm interrupt (LASI), the alarm line.
 #![tactic(auto)]
 
-ghost use Rattle.std.specs.Prelude.{◌≡◌, [], ◌∷◌};
-ghost use Rattle.words.specs.Words.{of_bits};
+ghost use Rattle.std.specs.Prelude.{◌≡◌, false, [], ◌∷◌};
+ghost use Rattle.std.specs.Int.Bits.{bit_or};
+ghost use Rattle.words.specs.Words.{of_bits, share};
+ghost use Rattle.latch.specs.Latch.{latched};
 ghost use Rattle.lasi.specs.Lasi.{rx_alarm, tx_alarm, lasi_status, alarm_line, status_at, flags_at};
 
 use alarms::Alarms;
+use latch::Latch;
 use words::{of_bits, share};
 
 // The word of bits 0, 1 and 2.
 fn low_bits(b0: bool, b1: bool, b2: bool) -> u16
     ensures { result ≡ of_bits (b0 ∷ b1 ∷ b2 ∷ []) }
 {
-    of_bits(b0, b1, b2, false, false, false, false, false)
+    of_bits([b0, b1, b2, false, false, false, false, false])
+}
+
+// Faults that stand, and in bit 1 whether the flags that stand and their control share a bit.
+fn alarm_status(faults: Latch, flags: Latch, control: u16) -> u16
+    ensures { result ≡ bit_or (latched faults) (of_bits (false ∷ share (latched flags) control ∷ false ∷ [])) }
+{
+    let flagged = share(flags.value(), control);
+    faults.value() | low_bits(false, flagged, false)
 }
 
 // 9003, RX_ALARM status: bit 1 is whether A071 and 9007 share a bit.
 fn rx_alarm(a: Alarms) -> u16
     ensures { result ≡ rx_alarm a }
 {
-    let faults = a.rxfaults.value();
-    let flags = a.rxalarm.value();
-    let flagged = share(flags, a.controls.rxflag);
-    faults | low_bits(false, flagged, false)
+    alarm_status(a.rxfaults, a.rxalarm, a.controls.rxflag)
 }
 
 // 9004, TX_ALARM status: bit 1 is whether A070 and 9006 share a bit.
 fn tx_alarm(a: Alarms) -> u16
     ensures { result ≡ tx_alarm a }
 {
-    let faults = a.txfaults.value();
-    let flags = a.txalarm.value();
-    let flagged = share(flags, a.controls.txflag);
-    faults | low_bits(false, flagged, false)
+    alarm_status(a.txfaults, a.txalarm, a.controls.txflag)
 }
 
 // 9005, LASI status: bit 2 is whether 9003 and 9000 share a bit, bit 1 whether 9004 and 9001 do, bit 0 the link alarm.

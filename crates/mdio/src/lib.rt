@@ -27,8 +27,8 @@ pub enum Request {
     ReadIncrement,
 }
 
-impl Frame {
-    fn of(word: u32) -> Frame
+impl From<u32> for Frame {
+    fn from(word: u32) -> Frame
         ensures { result ≡ frame_of word }
     {
         Frame {
@@ -40,7 +40,9 @@ impl Frame {
             payload: (word % 0x1_0000) as u16,
         }
     }
+}
 
+impl Frame {
     // The frame is for the module at this port.
     fn reaches(self, port: u8) -> bool
         ensures { result ≡ reaches port self }
@@ -78,7 +80,7 @@ impl Request {
     pub fn of(word: u32, port: u8) -> Request
         ensures { result ≡ request_of word port }
     {
-        let frame = Frame::of(word);
+        let frame = Frame::from(word);
         if frame.reaches(port) {
             asked(frame.operation, frame.turnaround, frame.payload)
         } else {

@@ -22,11 +22,7 @@ pub struct Monitor {
 fn bits_of(code: i16) -> u16
     ensures { result ≡ bits_of code }
 {
-    if code < 0 {
-        (code as i32 + 0x10000) as u16
-    } else {
-        code as u16
-    }
+    code.cast_unsigned()
 }
 
 // The high or the low byte of a code; a byte that is held stands for the low one.

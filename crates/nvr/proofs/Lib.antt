@@ -1,4 +1,3 @@
 -- Laws of `nvr` that belong to no one function.
 pub mod Regions
 pub mod Registers
-pub mod Sum

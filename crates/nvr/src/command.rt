@@ -29,10 +29,8 @@ fn burn_in(region: Region, offset: u8) -> Command
     ensures { result ≡ burn_in region offset }
 {
     match region {
-        Region::Basic => Command::Failed,
-        Region::Checksum => Command::Failed,
         Region::Customer => Command::BurnByte(offset),
-        Region::Vendor => Command::Failed,
+        _ => Command::Failed,
     }
 }
 
@@ -47,7 +45,7 @@ fn command_by(code: u16, write: bool, offset: u8) -> Command
             Command::LoadAll
         },
         2 => if write {
-            burn_in(Region::of(offset), offset)
+            burn_in(Region::from(offset), offset)
         } else {
             Command::LoadByte(offset)
         },
@@ -55,9 +53,10 @@ fn command_by(code: u16, write: bool, offset: u8) -> Command
     }
 }
 
-impl Command {
+impl From<u16> for Command {
+    // The command in a word written to 8000.
     #[tactic(auto, unfolding(crate::specs::Command::command_of))]
-    pub fn of(word: u16) -> Command
+    fn from(word: u16) -> Command
         ensures { result ≡ command_of word }
     {
         command_by(word % 4, bit(5, word), (word / 256) as u8)

@@ -1,5 +1,5 @@
 // The 256 bytes of an image: their regions, and the checksum of the basic region.
-ghost use Rattle.std.specs.Prelude.{◌≡◌, ◌+◌, ◌%◌, take};
+ghost use Rattle.std.specs.Prelude.{◌≡◌, ◌%◌, take};
 ghost use Rattle.nvr.specs.Image.{region_of, is_customer, sum, checksum_right};
 
 // The regions of an image, by offset.
@@ -11,8 +11,9 @@ pub enum Region {
     Vendor,
 }
 
-impl Region {
-    pub fn of(offset: u8) -> Region
+impl From<u8> for Region {
+    // The region of an offset.
+    fn from(offset: u8) -> Region
         ensures { result ≡ region_of offset }
     {
         match offset {
@@ -22,16 +23,13 @@ impl Region {
             _ => Region::Vendor,
         }
     }
+}
 
+impl Region {
     pub fn is_customer(self) -> bool
         ensures { result ≡ is_customer self }
     {
-        match self {
-            Region::Basic => false,
-            Region::Checksum => false,
-            Region::Customer => true,
-            Region::Vendor => false,
-        }
+        matches!(self, Region::Customer)
     }
 }
 
@@ -42,17 +40,10 @@ pub fn checksum(bytes: &[u8], left: usize) -> u8
     if left == 0 {
         return 0;
     }
-    if bytes.len() == 0 {
+    if bytes.is_empty() {
         return 0;
     }
-    let rest = checksum(&bytes[1..], left - 1);
-    low_sum(bytes[0], rest)
-}
-
-fn low_sum(first: u8, rest: u8) -> u8
-    ensures { result ≡ (first + rest) % 256 }
-{
-    ((first as u16 + rest as u16) % 256) as u8
+    bytes[0].wrapping_add(checksum(&bytes[1..], left - 1))
 }
 
 // The basic region's checksum, offset 118, is right.

@@ -5,10 +5,10 @@ use native.Mathlib.Omega.{arith}
 use mathlib.Core.Bool.{true}
 use mathlib.Core.List.{List, [], ◌∷◌, ◌++◌}
 use mathlib.Core.Path.{refl}
+use Rattle.std.specs.Prelude.{Ok, Err}
 use Rattle.answers.specs.Answers.{refusal_number}
 use Rattle.answers.specs.declared.Refusal.{Refusal}
 use Rattle.answers.specs.declared.Refusal.TheVariants.{Port, ImageLength, ThresholdsLength, Checksum, ThresholdOrder, Temperature, PoweredOff, PoweredOn}
-use Rattle.answers.specs.declared.Answer.TheVariants as plain
 use Rattle.answers.specs.declared.FrameAnswer.TheVariants as frame
 use Rattle.answers.specs.declared.TickAnswer.TheVariants as tick
 use Rattle.store.specs.declared.Cut.TheVariants.{Clean, Torn}
@@ -41,18 +41,18 @@ number_small PoweredOff = omega arith
 number_small PoweredOn = omega arith
 
 said_small : (a : CallAnswer) → (said a).refusal < 2 ^ 8
-said_small (call-answer.Plain plain.Accepted) = omega arith
-said_small (call-answer.Plain (plain.Refused why)) = number_small why
-said_small (call-answer.Frame frame.Silent) = omega arith
-said_small (call-answer.Frame frame.Set) = omega arith
-said_small (call-answer.Frame frame.Written) = omega arith
-said_small (call-answer.Frame frame.Dropped) = omega arith
-said_small (call-answer.Frame (frame.Data value)) = omega arith
-said_small (call-answer.Frame (frame.Refused why)) = number_small why
-said_small (call-answer.Tick tick.Nothing) = omega arith
-said_small (call-answer.Tick (tick.Loaded offset byte)) = omega arith
-said_small (call-answer.Tick (tick.Burned offset byte)) = omega arith
-said_small (call-answer.Tick (tick.Refused why)) = number_small why
+said_small (call-answer.Plain (Ok u)) = omega arith
+said_small (call-answer.Plain (Err why)) = number_small why
+said_small (call-answer.Frame (Ok frame.Silent)) = omega arith
+said_small (call-answer.Frame (Ok frame.Set)) = omega arith
+said_small (call-answer.Frame (Ok frame.Written)) = omega arith
+said_small (call-answer.Frame (Ok frame.Dropped)) = omega arith
+said_small (call-answer.Frame (Ok (frame.Data value))) = omega arith
+said_small (call-answer.Frame (Err why)) = number_small why
+said_small (call-answer.Tick (Ok tick.Nothing)) = omega arith
+said_small (call-answer.Tick (Ok (tick.Loaded offset byte))) = omega arith
+said_small (call-answer.Tick (Ok (tick.Burned offset byte))) = omega arith
+said_small (call-answer.Tick (Err why)) = number_small why
 
 kind_small : (c : Call) → kind_of c < 2 ^ 8
 kind_small PowerOn = omega arith

@@ -2,8 +2,7 @@
 -- unsaved (document 02, P3).
 -- Assumes nothing.
 use Rattle.std.specs.Prelude.{ℕ, Bool, get_or}
-use Rattle.answers.specs.Answers.{unsaved_answer}
-use Rattle.answers.specs.declared.UnsavedAnswer.{UnsavedAnswer}
+use Rattle.answers.specs.Answers.{Answer, unsaved_answer}
 use Rattle.lasi.specs.Lasi.{alarm_line}
 use Rattle.xenpak.specs.declared.Module.{Module}
 
@@ -20,5 +19,5 @@ abbrev pub stored_at : Module → ℕ → ℕ
 stored_at m offset = get_or m.store offset 0
 
 -- how many customer bytes differ between copy and store, as the record keeps it; 7 powered off
-abbrev pub unsaved_of : Module → UnsavedAnswer
+abbrev pub unsaved_of : Module → Answer ℕ
 unsaved_of m = unsaved_answer m.powered m.differing.copy

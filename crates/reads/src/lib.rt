@@ -4,7 +4,7 @@
 ghost use Rattle.std.specs.Prelude.{◌≡◌};
 ghost use Rattle.reads.specs.Reads.{line_of, counter_of, stored_at, unsaved_of};
 
-use answers::UnsavedAnswer;
+use answers::{Answer, to_unsaved};
 use lasi::line;
 use store::byte_at;
 use xenpak::Module;
@@ -32,8 +32,8 @@ pub fn stored(m: Module, offset: u8) -> u8
 }
 
 // How many customer bytes differ between copy and store. Refused with 7 when off.
-pub fn unsaved(m: Module) -> UnsavedAnswer
+pub fn unsaved(m: Module) -> Answer<u8>
     ensures { result ≡ unsaved_of m }
 {
-    UnsavedAnswer::of(m.powered, m.differing.copy)
+    to_unsaved(m.powered, m.differing.copy)
 }

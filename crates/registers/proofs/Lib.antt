@@ -1,3 +1,2 @@
 -- Laws of `registers` that belong to no one function.
 pub mod Between
-pub mod Rest

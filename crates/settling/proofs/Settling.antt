@@ -1,7 +1,6 @@
--- Settling: the loop's invariant, and the count when it ends.
+-- Settling: the loop's invariant.
 -- Assumes nothing.
-use Prim.Native.Nat.{ℕ, ◌+◌, ◌≤◌, ◌<◌, min}
-use native.Mathlib.Nat.{min-eq_left, min-eq_right}
+use Prim.Native.Nat.{ℕ, ◌+◌, ◌≤◌, ◌<◌}
 use native.Mathlib.Numerals.{add-one}
 use native.Mathlib.Omega.{arith}
 use mathlib.Core.Bool.{Bool, true, false}
@@ -17,11 +16,10 @@ use Rattle.differing.specs.Differing.{differing_ticked}
 use Rattle.jobs.specs.declared.Job.{Job}
 use Rattle.differing.specs.declared.Differing.{Differing}
 use Rattle.xenpak.specs.Calls.{with_bytes, tick}
-use Rattle.settling.specs.Settling.{ticks, due, settled}
-use Rattle.answers.specs.declared.SettleAnswer.TheVariants.{Ticks}
+use Rattle.settling.specs.Settling.{ticks, due}
+use Rattle.answers.specs.Answers.{Answer}
 use Rattle.answers.specs.declared.TickAnswer.{TickAnswer}
 use Rattle.xenpak.specs.declared.Module.{Module}
-use Rattle.settling.specs.declared.SettleOutcome.{SettleOutcome}
 
 -- after a byte one tick fewer is due
 byte-done : (j : Job) → is_busy j ≡ true → due (after_work j (work_of true j)) + 1 ≡ due j
@@ -61,7 +59,7 @@ unfolding ticks
 start budget m on = record { within = omega arith; after = refl; powered = on; left = omega arith }
 
 -- a tick, made on the parts
-pub ticked : (m : Module) (j : Job) (d : Differing) {j' : Job} {d' : Differing} {s s' c c' : List ℕ} {w : Work} {a : TickAnswer} → m.powered ≡ true
+pub ticked : (m : Module) (j : Job) (d : Differing) {j' : Job} {d' : Differing} {s s' c c' : List ℕ} {w : Work} {a : Answer TickAnswer} → m.powered ≡ true
     → w ≡ work_of true j → j' ≡ after_work j w → d' ≡ differing_ticked d s c w → Moved s c w a s' c' → with_bytes s' c' d' j' m ≡ (tick (with_bytes s c d j m)).next
 unfolding tick
 ticked m j d on p q r moved = rw (q, r, moved.store, moved.copy, p, on)
@@ -75,15 +73,3 @@ again {budget} {done} {m₀} {m} {n} s h e p =
       powered = ap (λ (x : Module). x.powered) p ∙ (tick-powered m ∙ s.powered);
       left = omega (arith, ap (λ (x : Module). due x.job) p, tick-done m s.powered e, s.left);
     }
-
-counted : (budget done : ℕ) (m₀ m : Module) → Settling budget m₀ m done → min budget (due m₀.job) ≡ done → ◌≡◌ {A = SettleOutcome} (record { next = m; answer = Ticks done }) (settled m₀ budget)
-counted budget done m₀ m s e = rw (e, s.after)
-
--- ended with the budget spent, or with no byte due, the count is the lesser of the two
-pub spent : (budget done : ℕ) (m₀ m : Module) → Settling budget m₀ m done → budget ≤ done → ◌≡◌ {A = SettleOutcome} (record { next = m; answer = Ticks done }) (settled m₀ budget)
-spent budget done m₀ m s h = counted budget done m₀ m s (min-eq_left (omega (arith, s.left, s.within)) ∙ omega (arith, s.within))
-
-pub idle : (budget done : ℕ) (m₀ m : Module) → Settling budget m₀ m done → is_busy m.job ≡ false → ◌≡◌ {A = SettleOutcome} (record { next = m; answer = Ticks done }) (settled m₀ budget)
-idle budget done m₀ m s e =
-    let z = none-due m.job e in
-    counted budget done m₀ m s (min-eq_right (omega (arith, s.left, z, s.within)) ∙ omega (arith, s.left, z))

@@ -4,20 +4,14 @@
 ghost use Rattle.std.specs.Prelude.{◌≡◌, true};
 ghost use Rattle.settling.specs.Settling.{settled, settle};
 
-use answers::{Refusal, SettleAnswer};
+use answers::{Answer, Refusal};
 use store::move_byte;
 use work::{after_work, work_of};
-use xenpak::Module;
-
-#[derive(Clone, Copy)]
-pub struct SettleOutcome {
-    pub next: Module,
-    pub answer: SettleAnswer,
-}
+use xenpak::{Module, Outcome};
 
 // Ticks of a powered module until no job is due or the budget is spent, made on its job and bytes: the record is copied
 // once, and not at each tick.
-fn settled(mut m: Module, budget: u32) -> SettleOutcome
+fn settled(mut m: Module, budget: u32) -> Outcome<Answer<u32>>
     requires { m.powered ≡ true }
     ensures { result ≡ settled m budget }
 {
@@ -26,37 +20,33 @@ fn settled(mut m: Module, budget: u32) -> SettleOutcome
     let mut store = m.store;
     let mut copy = m.copy;
     let mut done: u32 = 0;
-    while done < budget {
-        if job.busy() {
-            let work = work_of(job, true);
-            job = after_work(job, work);
-            differing = differing.after_tick(&store, &copy, work);
-            move_byte(&mut store, &mut copy, work);
-            done += 1;
-        } else {
-            break;
-        }
+    while done < budget && job.busy() {
+        let work = work_of(job, true);
+        job = after_work(job, work);
+        differing = differing.after_tick(&store, &copy, work);
+        let _ = move_byte(&mut store, &mut copy, work);
+        done += 1;
     }
     m.job = job;
     m.differing = differing;
     m.store = store;
     m.copy = copy;
-    SettleOutcome {
+    Outcome {
         next: m,
-        answer: SettleAnswer::Ticks(done),
+        answer: Ok(done),
     }
 }
 
 // Ticks until no job is due or the budget is spent, and counts them.
 #[tactic(auto, unfolding(crate::specs::Settling::settle))]
-pub fn settle(m: Module, budget: u32) -> SettleOutcome
+pub fn settle(m: Module, budget: u32) -> Outcome<Answer<u32>>
     ensures { result ≡ settle m budget }
 {
     if m.powered {
         return settled(m, budget);
     }
-    SettleOutcome {
+    Outcome {
         next: m,
-        answer: SettleAnswer::Refused(Refusal::PoweredOff),
+        answer: Err(Refusal::PoweredOff),
     }
 }

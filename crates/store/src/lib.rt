@@ -6,7 +6,7 @@ ghost use Rattle.std.specs.Prelude.{◌≡◌, get_or};
 ghost use Rattle.store.specs.Bytes.{Moved, torn_store, zeros, written_copy};
 
 use action::Action;
-use answers::{Refusal, TickAnswer};
+use answers::{Answer, Refusal, TickAnswer};
 use work::Work;
 
 // A power cut: clean, or torn with a byte (document 01: struck).
@@ -17,23 +17,23 @@ pub enum Cut {
 }
 
 // A tick's byte goes from store to copy, or from copy to store.
-pub fn move_byte(store: &mut [u8; 256], copy: &mut [u8; 256], work: Work) -> TickAnswer
+pub fn move_byte(store: &mut [u8; 256], copy: &mut [u8; 256], work: Work) -> Answer<TickAnswer>
     ensures { Moved store.old copy.old work result store.new copy.new }
 {
     match work {
-        Work::Refused => TickAnswer::Refused(Refusal::PoweredOff),
-        Work::Nothing => TickAnswer::Nothing,
+        Work::Refused => Err(Refusal::PoweredOff),
+        Work::Nothing => Ok(TickAnswer::Nothing),
         Work::Load(due) => {
             let at = due as usize;
             let byte = store[at];
             copy[at] = byte;
-            TickAnswer::Loaded(due, byte)
+            Ok(TickAnswer::Loaded(due, byte))
         }
         Work::Burn(due) => {
             let at = due as usize;
             let byte = copy[at];
             store[at] = byte;
-            TickAnswer::Burned(due, byte)
+            Ok(TickAnswer::Burned(due, byte))
         }
     }
 }
@@ -74,9 +74,9 @@ pub fn write_copy(copy: &mut [u8; 256], action: Action)
     }
 }
 
-// The byte at an offset.
-pub fn byte_at(bytes: &[u8; 256], offset: u8) -> u8
+// The byte at an offset, 0 past the last.
+pub fn byte_at<const N: usize>(bytes: &[u8; N], offset: u8) -> u8
     ensures { result ≡ get_or bytes.now offset 0 }
 {
-    bytes[offset as usize]
+    bytes.get(usize::from(offset)).copied().unwrap_or(0)
 }

@@ -1,41 +1,26 @@
 // The 40 threshold bytes as codes, and their order.
 #![tactic(auto)]
 
-ghost use Rattle.std.specs.Prelude.{◌≡◌, cond, ◌≤◌, pos, get_or};
+ghost use Rattle.std.specs.Prelude.{◌≡◌, cond, ◌≤◌, pos};
 ghost use Rattle.dom.specs.Codes.{signed_code};
-ghost use Rattle.thresholds.specs.Thresholds.{code_of, code_at, row_at, thresholds_of, row_ordered, ordered};
+ghost use Rattle.thresholds.specs.Thresholds.{code_at, row_at, thresholds_of, row_ordered, ordered};
 
 use dom::signed_code;
 
-// The columns of a quantity's row.
-pub const HIGH_ALARM: usize = 0;
-
-pub const LOW_ALARM: usize = 1;
-
-pub const HIGH_WARNING: usize = 2;
-
-pub const LOW_WARNING: usize = 3;
-
-// The code of two bytes, high byte first.
-fn code_of(high: u8, low: u8) -> u16
-    ensures { result ≡ code_of high low }
-{
-    high as u16 * 256 + low as u16
-}
-
-// The code at an offset as a number, signed or not.
+// The code at an offset, high byte first, as a number, signed or not.
 fn number_at(bytes: &[u8; 40], at: usize, signed: bool) -> i32
     requires { at ≤ 38 }
     ensures { result ≡ cond signed signed_code pos (code_at bytes.now at) }
 {
-    let code = code_of(bytes[at], bytes[at + 1]);
+    let code = u16::from_be_bytes([bytes[at], bytes[at + 1]]);
     if signed {
-        signed_code(code) as i32
+        i32::from(signed_code(code))
     } else {
-        code as i32
+        i32::from(code)
     }
 }
 
+// The row of thresholds from an offset on.
 fn row_at(bytes: &[u8; 40], at: usize, signed: bool) -> [i32; 4]
     requires { at ≤ 32 }
     ensures { result ≡ row_at (cond signed signed_code pos) bytes.now at }
@@ -48,7 +33,7 @@ fn row_at(bytes: &[u8; 40], at: usize, signed: bool) -> [i32; 4]
     ]
 }
 
-// The four thresholds of each quantity; bytes 8 to 15 are no quantity's.
+// The four thresholds of each quantity, high and low alarm, high and low warning; bytes 8 to 15 are no quantity's.
 pub fn thresholds_of(bytes: &[u8; 40]) -> [[i32; 4]; 4]
     ensures { result ≡ thresholds_of bytes.now }
 {
@@ -64,9 +49,8 @@ pub fn thresholds_of(bytes: &[u8; 40]) -> [[i32; 4]; 4]
 fn row_ordered(row: [i32; 4]) -> bool
     ensures { result ≡ row_ordered row }
 {
-    (row[LOW_ALARM] <= row[LOW_WARNING])
-        & (row[LOW_WARNING] <= row[HIGH_WARNING])
-        & (row[HIGH_WARNING] <= row[HIGH_ALARM])
+    let [high_alarm, low_alarm, high_warning, low_warning] = row;
+    (low_alarm <= low_warning) & (low_warning <= high_warning) & (high_warning <= high_alarm)
 }
 
 // Every quantity's thresholds are in order. Any others are refused with 5.
@@ -74,11 +58,4 @@ pub fn ordered(t: [[i32; 4]; 4]) -> bool
     ensures { result ≡ ordered t }
 {
     row_ordered(t[0]) & row_ordered(t[1]) & row_ordered(t[2]) & row_ordered(t[3])
-}
-
-// Threshold byte k, as given.
-pub fn byte_at(thresholds: [u8; 40], k: u8) -> u8
-    ensures { result ≡ get_or thresholds k 0 }
-{
-    if k < 40 { thresholds[k as usize] } else { 0 }
 }

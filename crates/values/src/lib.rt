@@ -19,7 +19,7 @@ fn register_byte(register: Register, copy: &[u8; 256], thresholds: &[u8; 40]) ->
     match register {
         Register::Copy(offset) => byte_at(copy, offset),
         Register::Customer(offset) => byte_at(copy, offset),
-        Register::Threshold(k) => thresholds::byte_at(*thresholds, k),
+        Register::Threshold(k) => byte_at(thresholds, k),
         _ => 0,
     }
 }

@@ -10,7 +10,8 @@ use mathlib.Core.Bool.{Bool, true, false, cond, ◌&&◌, ◌||◌, not}
 use mathlib.Core.List.{List, [], ◌∷◌}
 use lib.Bits.{bit_and, bit_or, and_step, or_step, and_shr, or_shr, and_le_r, shifted_half, shifted_even}
 use lib.Dec.{eqb}
-use lib.ListN.{length, get_or}
+use lib.ListN.{length, get_or, drop}
+use mir.Val.{bool_byte}
 use lib.Pow.{pow_mono, shl-shr, shr-shr}
 use Rattle.words.specs.Words.{bit, of_bits, any_bit, share}
 
@@ -105,6 +106,29 @@ of_bits-below (b ∷ bs) = digit-first b (of_bits bs) (length bs) (of_bits-below
     digit-first : (b : Bool) (w n : ℕ) → w < 2 ^ n → cond b 1 0 + 2 * w < 2 ^ suc n
     digit-first true w n h = omega arith
     digit-first false w n h = omega arith
+
+-- the word of the bits from i on: bit i, and twice the word of those after it
+first-and_rest : (bs : List Bool) (i : ℕ) → of_bits (drop i bs) ≡ bool_byte (get_or bs i false) + 2 * of_bits (drop (suc i) bs)
+first-and_rest [] zero = refl
+first-and_rest [] (suc i) = refl
+first-and_rest (true ∷ bs) zero = refl
+first-and_rest (false ∷ bs) zero = refl
+first-and_rest (b ∷ bs) (suc i) = first-and_rest bs i
+
+no_more : (bs : List Bool) (n : ℕ) → length bs ≤ n → of_bits (drop n bs) ≡ 0
+no_more [] zero h = refl
+no_more [] (suc n) h = refl
+no_more (b ∷ bs) zero h = absurd (omega arith)
+no_more (b ∷ bs) (suc n) h = no_more bs n (omega arith)
+
+-- the word of eight bits, as the code adds them up
+pub of_eight_bits : (bs : List Bool) → length bs ≡ 8
+    → bool_byte (get_or bs 0 false) + 2 * bool_byte (get_or bs 1 false) + 4 * bool_byte (get_or bs 2 false) + 8 * bool_byte (get_or bs 3 false)
+    + 16 * bool_byte (get_or bs 4 false) + 32 * bool_byte (get_or bs 5 false) + 64 * bool_byte (get_or bs 6 false) + 128 * bool_byte (get_or bs 7 false)
+    ≡ of_bits bs
+of_eight_bits bs h =
+    let step = first-and_rest bs in
+    omega (arith, step 0, step 1, step 2, step 3, step 4, step 5, step 6, step 7, no_more bs 8 (omega arith))
 
 -- words with the same bits are equal
 pub bits_equal : (n : ℕ) {a b : ℕ} → a < 2 ^ n → b < 2 ^ n → ((i : ℕ) → bit i a ≡ bit i b) → a ≡ b

@@ -1,7 +1,7 @@
 // The bits of a 16-bit word.
 #![tactic(auto)]
 
-ghost use Rattle.std.specs.Prelude.{◌≡◌, cond, [], ◌∷◌, ◌≤◌};
+ghost use Rattle.std.specs.Prelude.{◌≡◌};
 ghost use Rattle.words.specs.Words.{bit, of_bits, share};
 
 // Whether bit i of a word is set, bit 0 the lowest.
@@ -23,30 +23,16 @@ pub fn share(a: u16, b: u16) -> bool
 }
 
 // The word of eight bits, the lowest first.
-pub fn of_bits(
-    b0: bool,
-    b1: bool,
-    b2: bool,
-    b3: bool,
-    b4: bool,
-    b5: bool,
-    b6: bool,
-    b7: bool,
-) -> u16
-    ensures { result ≡ of_bits (b0 ∷ b1 ∷ b2 ∷ b3 ∷ b4 ∷ b5 ∷ b6 ∷ b7 ∷ []) }
+#[tactic(auto, using(crate::proofs::Laws::of_eight_bits))]
+pub fn of_bits(bits: [bool; 8]) -> u16
+    ensures { result ≡ of_bits bits }
 {
-    digit(b0)
-        + 2 * digit(b1)
-        + 4 * digit(b2)
-        + 8 * digit(b3)
-        + 16 * digit(b4)
-        + 32 * digit(b5)
-        + 64 * digit(b6)
-        + 128 * digit(b7)
-}
-
-fn digit(b: bool) -> u16
-    ensures { (result ≡ cond b 1 0) × (result ≤ 1) }
-{
-    if b { 1 } else { 0 }
+    u16::from(bits[0])
+        + 2 * u16::from(bits[1])
+        + 4 * u16::from(bits[2])
+        + 8 * u16::from(bits[3])
+        + 16 * u16::from(bits[4])
+        + 32 * u16::from(bits[5])
+        + 64 * u16::from(bits[6])
+        + 128 * u16::from(bits[7])
 }

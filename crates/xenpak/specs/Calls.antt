@@ -1,6 +1,6 @@
 -- Each call's answer, and the record after it. Document 01, "The record and its calls", "Load, burn, cut" and "Alarms".
 -- Assumes nothing.
-use Rattle.std.specs.Prelude.{ℕ, Bool, true, false, List}
+use Rattle.std.specs.Prelude.{ℕ, Bool, true, false, List, Ok, Err}
 use Rattle.jobs.specs.Job.{first_load, first_command}
 use Rattle.jobs.specs.declared.Job.{Job}
 use Rattle.work.specs.Work.{work_of, after_work}
@@ -19,23 +19,21 @@ use Rattle.monitor.specs.declared.Monitor.{Monitor}
 use Rattle.alarms.specs.Alarms.{no_alarms, restarted, after_lines, after_sample}
 use Rattle.alarms.specs.declared.Alarms.{Alarms}
 use Rattle.alarms.specs.declared.Lines.{Lines}
-use Rattle.answers.specs.Answers.{power_on_answer, call_answer}
-use Rattle.answers.specs.declared.Answer.{Answer}
-use Rattle.answers.specs.declared.Answer.TheVariants.{Accepted, Refused}
+use Rattle.answers.specs.Answers.{Answer, power_on_answer, call_answer}
+use Rattle.answers.specs.declared.TickAnswer.{TickAnswer}
 use Rattle.xenpak.specs.declared.Module.{Module}
 use Rattle.xenpak.specs.declared.Outcome.{Outcome}
-use Rattle.xenpak.specs.declared.TickOutcome.{TickOutcome}
 
-abbrev pub accepted : Module → Outcome
-accepted m = record { next = m; answer = Accepted }
+abbrev pub accepted : Module → Outcome (Answer (Unit {0}))
+accepted m = record { next = m; answer = Ok tt }
 
 -- a refusal gives the record unchanged
-abbrev pub kept : Answer → Module → Module → Module
-kept Accepted m next = next
-kept (Refused why) m next = m
+abbrev pub kept : Answer (Unit {0}) → Module → Module → Module
+kept (Ok u) m next = next
+kept (Err why) m next = m
 
 -- a call with this answer, which would leave the record `next`
-abbrev pub taken : Answer → Module → Module → Outcome
+abbrev pub taken : Answer (Unit {0}) → Module → Module → Outcome (Answer (Unit {0}))
 taken answer m next = record { next = kept answer m next; answer = answer }
 
 -- ---- starts
@@ -58,11 +56,11 @@ started powered alarms m =
     }
 
 -- power-on also zeroes the lines
-unfoldable pub power_on : Module → Outcome
+unfoldable pub power_on : Module → Outcome (Answer (Unit {0}))
 power_on m = taken (power_on_answer m.powered) m (started true no_alarms m)
 
 -- a reset keeps them
-unfoldable pub reset_pin : Module → Outcome
+unfoldable pub reset_pin : Module → Outcome (Answer (Unit {0}))
 reset_pin m = taken (call_answer m.powered true) m (started m.powered (restarted m.alarms) m)
 
 -- ---- cut: the power goes; the other fields keep their values
@@ -82,7 +80,7 @@ after_cut m cut =
       monitor = m.monitor;
     }
 
-unfoldable pub power_cut : Module → Cut → Outcome
+unfoldable pub power_cut : Module → Cut → Outcome (Answer (Unit {0}))
 power_cut m cut = taken (call_answer m.powered true) m (after_cut m cut)
 
 -- ---- tick
@@ -103,7 +101,7 @@ with_bytes store copy differing job m =
       monitor = m.monitor;
     }
 
-abbrev pub tick_by : Module → Work → TickOutcome
+abbrev pub tick_by : Module → Work → Outcome (Answer TickAnswer)
 tick_by m w =
     record {
       next =
@@ -112,7 +110,7 @@ tick_by m w =
       answer = tick_answer m.store m.copy w;
     }
 
-unfoldable pub tick : Module → TickOutcome
+unfoldable pub tick : Module → Outcome (Answer TickAnswer)
 tick m = tick_by m (work_of m.powered m.job)
 
 -- ---- lines, sample
@@ -135,12 +133,12 @@ with_alarms alarms monitor m =
 abbrev pub lined : Module → Lines → Module
 lined m l = with_alarms (after_lines m.alarms l) m.monitor m
 
-unfoldable pub lines : Module → Lines → Outcome
+unfoldable pub lines : Module → Lines → Outcome (Answer (Unit {0}))
 lines m l = taken (call_answer m.powered true) m (lined m l)
 
 abbrev pub sampled : Module → Sample → Module
 sampled m s =
     with_alarms (after_sample m.alarms (flags_of (thresholds_of m.thresholds) s)) (sampled_monitor s m.monitor) m
 
-unfoldable pub sample : Module → Sample → Outcome
+unfoldable pub sample : Module → Sample → Outcome (Answer (Unit {0}))
 sample m s = taken (call_answer m.powered (acceptable s.temperature)) m (sampled m s)

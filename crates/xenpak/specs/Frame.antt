@@ -8,12 +8,13 @@ use Rattle.jobs.specs.Job.{is_busy, job_after, command_after}
 use Rattle.store.specs.Bytes.{written_copy}
 use Rattle.monitor.specs.Monitor.{monitor_after}
 use Rattle.alarms.specs.Alarms.{alarms_after}
-use Rattle.answers.specs.Answers.{frame_answer}
+use Rattle.answers.specs.Answers.{Answer, frame_answer}
+use Rattle.answers.specs.declared.FrameAnswer.{FrameAnswer}
 use Rattle.values.specs.Values.{register_of, register_byte, register_value}
 use Rattle.differing.specs.Differing.{differing_after}
 use Rattle.bus.specs.Bus.{bus_after}
 use Rattle.xenpak.specs.declared.Module.{Module}
-use Rattle.xenpak.specs.declared.FrameOutcome.{FrameOutcome}
+use Rattle.xenpak.specs.declared.Outcome.{Outcome}
 
 -- what a register reads
 abbrev pub value_at : Module → Register → ℕ
@@ -37,8 +38,8 @@ module_after m a =
     }
 
 -- a read gives the value before it clears
-abbrev pub frame_by : Module → Action → FrameOutcome
+abbrev pub frame_by : Module → Action → Outcome (Answer FrameAnswer)
 frame_by m a = record { next = module_after m a; answer = frame_answer a (value_at m (register_of a)) }
 
-unfoldable pub frame : Module → ℕ → FrameOutcome
+unfoldable pub frame : Module → ℕ → Outcome (Answer FrameAnswer)
 frame m word = frame_by m (action_of m.powered m.port m.bus.address (is_busy m.job) word)

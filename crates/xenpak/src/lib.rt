@@ -7,7 +7,7 @@ ghost use Rattle.xenpak.specs.Calls.{taken, started, power_on, power_cut, reset_
 
 use action::{Action, decide};
 use alarms::{Alarms, Lines};
-use answers::{Answer, FrameAnswer, TickAnswer};
+use answers::{Answer, FrameAnswer, TickAnswer, to_call, to_frame, to_power_on};
 use bus::Bus;
 use differing::Differing;
 use dom::Sample;
@@ -36,37 +36,25 @@ pub struct Module {
     pub monitor: Monitor,
 }
 
-// A call's answer beside the record after it.
+// What a call answers, beside the record after it.
 #[derive(Clone, Copy)]
-pub struct Outcome {
+pub struct Outcome<A> {
     pub next: Module,
-    pub answer: Answer,
-}
-
-#[derive(Clone, Copy)]
-pub struct FrameOutcome {
-    pub next: Module,
-    pub answer: FrameAnswer,
-}
-
-#[derive(Clone, Copy)]
-pub struct TickOutcome {
-    pub next: Module,
-    pub answer: TickAnswer,
+    pub answer: A,
 }
 
 // Every call but power-on is refused with 7 when the module is off; a refused call hands the record back as it was.
 impl Module {
     // What a call leaves: the record `next` where it is accepted, this one where it is refused.
-    fn taken(self, answer: Answer, next: Module) -> Outcome
+    fn taken(self, answer: Answer<()>, next: Module) -> Outcome<Answer<()>>
         ensures { result ≡ taken answer self next }
     {
         match answer {
-            Answer::Accepted => Outcome {
+            Ok(()) => Outcome {
                 next: next,
                 answer: answer,
             },
-            Answer::Refused(_) => Outcome {
+            Err(_) => Outcome {
                 next: self,
                 answer: answer,
             },
@@ -98,27 +86,27 @@ impl Module {
 
     // Power-on: the first load starts, and the lines are zero. Refused with 8 when powered.
     #[tactic(auto, unfolding(crate::specs::Calls::power_on))]
-    pub fn power_on(mut self) -> Outcome
+    pub fn power_on(mut self) -> Outcome<Answer<()>>
         ensures { result ≡ power_on self }
     {
         let before = self;
         self = self.started(true, Alarms::NONE);
-        before.taken(Answer::to_power_on(before.powered), self)
+        before.taken(to_power_on(before.powered), self)
     }
 
     // The reset pin: the first load starts, and the lines are kept.
     #[tactic(auto, unfolding(crate::specs::Calls::reset_pin))]
-    pub fn reset_pin(mut self) -> Outcome
+    pub fn reset_pin(mut self) -> Outcome<Answer<()>>
         ensures { result ≡ reset_pin self }
     {
         let before = self;
         self = self.started(self.powered, self.alarms.restarted());
-        before.taken(Answer::to_call(before.powered, true), self)
+        before.taken(to_call(before.powered, true), self)
     }
 
     // The power goes; a torn cut (document 01: struck) leaves its byte where a burn is due.
     #[tactic(auto, unfolding(crate::specs::Calls::power_cut))]
-    pub fn power_cut(mut self, cut: Cut) -> Outcome
+    pub fn power_cut(mut self, cut: Cut) -> Outcome<Answer<()>>
         ensures { result ≡ power_cut self cut }
     {
         let before = self;
@@ -129,12 +117,12 @@ impl Module {
         tear(&mut store, work, cut);
         self.store = store;
         self.powered = false;
-        before.taken(Answer::to_call(before.powered, true), self)
+        before.taken(to_call(before.powered, true), self)
     }
 
     // One byte of the job, if one is due.
     #[tactic(auto, unfolding(crate::specs::Calls::tick))]
-    pub fn tick(mut self) -> TickOutcome
+    pub fn tick(mut self) -> Outcome<Answer<TickAnswer>>
         ensures { result ≡ tick self }
     {
         let work = work_of(self.job, self.powered);
@@ -145,7 +133,7 @@ impl Module {
         let answer = move_byte(&mut store, &mut copy, work);
         self.store = store;
         self.copy = copy;
-        TickOutcome {
+        Outcome {
             next: self,
             answer: answer,
         }
@@ -153,17 +141,17 @@ impl Module {
 
     // The lines report faults and link levels.
     #[tactic(auto, unfolding(crate::specs::Calls::lines))]
-    pub fn lines(mut self, given: Lines) -> Outcome
+    pub fn lines(mut self, given: Lines) -> Outcome<Answer<()>>
         ensures { result ≡ lines self given }
     {
         let before = self;
         self.alarms = self.alarms.lines(given);
-        before.taken(Answer::to_call(before.powered, true), self)
+        before.taken(to_call(before.powered, true), self)
     }
 
     // The monitor reports a sample; one out of range is refused with 6.
     #[tactic(auto, unfolding(crate::specs::Calls::sample))]
-    pub fn sample(mut self, given: Sample) -> Outcome
+    pub fn sample(mut self, given: Sample) -> Outcome<Answer<()>>
         ensures { result ≡ sample self given }
     {
         let before = self;
@@ -171,7 +159,7 @@ impl Module {
         let flags = flags_of(thresholds_of(&thresholds), given);
         self.alarms = self.alarms.sampled(flags);
         self.monitor = self.monitor.sampled(given);
-        before.taken(Answer::to_call(before.powered, given.acceptable()), self)
+        before.taken(to_call(before.powered, given.acceptable()), self)
     }
 
     // Each part after a frame.
@@ -193,7 +181,7 @@ impl Module {
 
     // A frame on the bus: what it asks is decided, then each part reacts.
     #[tactic(auto, unfolding(crate::specs::Frame::frame))]
-    pub fn frame(mut self, word: u32) -> FrameOutcome
+    pub fn frame(mut self, word: u32) -> Outcome<Answer<FrameAnswer>>
         ensures { result ≡ frame self word }
     {
         let job = self.job;
@@ -203,9 +191,9 @@ impl Module {
         let thresholds = self.thresholds;
         let byte = byte_read(action, &copy, &thresholds);
         let value = value_read(action, byte, job, self.command, self.alarms, self.monitor);
-        let answer = FrameAnswer::of(action, value);
+        let answer = to_frame(action, value);
         self = self.after(action);
-        FrameOutcome {
+        Outcome {
             next: self,
             answer: answer,
         }

@@ -1,2 +1,0 @@
--- Laws of `action` that belong to no one function.
-pub mod Rest

@@ -1,2 +1,0 @@
--- Laws of `monitor` that belong to no one function.
-pub mod Bits
