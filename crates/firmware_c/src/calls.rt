@@ -1,6 +1,5 @@
 // The calls for C by value: each takes a record and hands back the one after it.
 ghost use Rattle.std.specs.Prelude.{◌≡◌};
-ghost use Rattle.answers.specs.Answers.{said_plain};
 ghost use Rattle.dom.specs.Readout.{tenths_of};
 ghost use Rattle.store.specs.declared.Cut.TheVariants.{Clean, Torn};
 ghost use Rattle.xenpak.specs.Calls.{power_on, power_cut, reset_pin, lines, sample};
@@ -10,12 +9,12 @@ ghost use Rattle.settling.specs.Settling.{settle};
 ghost use Rattle.firmware_c.specs.Words.{called_by, settled_by};
 
 use alarms::Lines;
-use answers::{Answer, SettleAnswer};
+use answers::{Answer, number};
 use creation::make;
 use dom::Sample;
 use dom::readout::tenths;
 use reads::{alarm_line, counter, stored};
-use settling::{SettleOutcome, settle};
+use settling::settle;
 use store::Cut;
 use xenpak::{Module, Outcome};
 
@@ -36,45 +35,25 @@ pub struct Settled {
     pub refusal: u8,
 }
 
-// A refusal's number, or 0.
-fn refusal_of(answer: Answer) -> u8
-    ensures { result ≡ (said_plain answer).refusal }
-{
-    match answer {
-        Answer::Accepted => 0,
-        Answer::Refused(why) => why.number(),
-    }
-}
-
-impl Called {
-    fn by(outcome: Outcome) -> Called
+impl From<Outcome<Answer<()>>> for Called {
+    fn from(outcome: Outcome<Answer<()>>) -> Called
         ensures { result ≡ called_by outcome }
     {
-        let answer = outcome.answer;
         Called {
             next: outcome.next,
-            refusal: refusal_of(answer),
+            refusal: number(outcome.answer),
         }
     }
 }
 
-impl Settled {
-    fn by(outcome: SettleOutcome) -> Settled
+impl From<Outcome<Answer<u32>>> for Settled {
+    fn from(outcome: Outcome<Answer<u32>>) -> Settled
         ensures { result ≡ settled_by outcome }
     {
-        let next = outcome.next;
-        let answer = outcome.answer;
-        match answer {
-            SettleAnswer::Ticks(count) => Settled {
-                next: next,
-                ticks: count,
-                refusal: 0,
-            },
-            SettleAnswer::Refused(why) => Settled {
-                next: next,
-                ticks: 0,
-                refusal: why.number(),
-            },
+        Settled {
+            next: outcome.next,
+            ticks: outcome.answer.unwrap_or(0),
+            refusal: number(outcome.answer),
         }
     }
 }
@@ -84,7 +63,7 @@ impl Settled {
 pub extern "C" fn xenpak_make(port: u8, image: &[u8], thresholds: &[u8]) -> Called
     ensures { result ≡ called_by (make port image.now thresholds.now) }
 {
-    Called::by(make(port, image, thresholds))
+    Called::from(make(port, image, thresholds))
 }
 
 // Power-on.
@@ -92,7 +71,7 @@ pub extern "C" fn xenpak_make(port: u8, image: &[u8], thresholds: &[u8]) -> Call
 pub extern "C" fn xenpak_power_on(m: Module) -> Called
     ensures { result ≡ called_by (power_on m) }
 {
-    Called::by(m.power_on())
+    Called::from(m.power_on())
 }
 
 // A clean cut.
@@ -100,7 +79,7 @@ pub extern "C" fn xenpak_power_on(m: Module) -> Called
 pub extern "C" fn xenpak_cut(m: Module) -> Called
     ensures { result ≡ called_by (power_cut m Clean) }
 {
-    Called::by(m.power_cut(Cut::Clean))
+    Called::from(m.power_cut(Cut::Clean))
 }
 
 // A torn cut, with its byte.
@@ -108,7 +87,7 @@ pub extern "C" fn xenpak_cut(m: Module) -> Called
 pub extern "C" fn xenpak_cut_torn(m: Module, byte: u8) -> Called
     ensures { result ≡ called_by (power_cut m (Torn byte)) }
 {
-    Called::by(m.power_cut(Cut::Torn(byte)))
+    Called::from(m.power_cut(Cut::Torn(byte)))
 }
 
 // The reset pin.
@@ -116,7 +95,7 @@ pub extern "C" fn xenpak_cut_torn(m: Module, byte: u8) -> Called
 pub extern "C" fn xenpak_reset_pin(m: Module) -> Called
     ensures { result ≡ called_by (reset_pin m) }
 {
-    Called::by(m.reset_pin())
+    Called::from(m.reset_pin())
 }
 
 // The lines that the optics report.
@@ -124,7 +103,7 @@ pub extern "C" fn xenpak_reset_pin(m: Module) -> Called
 pub extern "C" fn xenpak_lines(m: Module, given: Lines) -> Called
     ensures { result ≡ called_by (lines m given) }
 {
-    Called::by(m.lines(given))
+    Called::from(m.lines(given))
 }
 
 // A sample of the diagnostics.
@@ -132,7 +111,7 @@ pub extern "C" fn xenpak_lines(m: Module, given: Lines) -> Called
 pub extern "C" fn xenpak_sample(m: Module, given: Sample) -> Called
     ensures { result ≡ called_by (sample m given) }
 {
-    Called::by(m.sample(given))
+    Called::from(m.sample(given))
 }
 
 // Settling, with its budget in ticks.
@@ -140,7 +119,7 @@ pub extern "C" fn xenpak_sample(m: Module, given: Sample) -> Called
 pub extern "C" fn xenpak_settle(m: Module, budget: u32) -> Settled
     ensures { result ≡ settled_by (settle m budget) }
 {
-    Settled::by(settle(m, budget))
+    Settled::from(settle(m, budget))
 }
 
 // The alarm line, LASI.
