@@ -1,6 +1,7 @@
 // The modules that a sheet makes.
 use crate::print::{Given, show};
 use crate::sheet::{Step, Word, decimal};
+use calls::CallAnswer;
 use creation::make;
 use std::array;
 use xenpak::Module;
@@ -73,7 +74,7 @@ impl Parts {
         let thresholds_end = (self.thresholds % 42) as usize;
         let outcome = make(port, &image[0..image_end], &thresholds[0..thresholds_end]);
         if asks {
-            show(rt, Given::from(outcome.answer));
+            show(rt, Given::from(CallAnswer::Plain(outcome.answer)));
         }
         outcome.next
     }

@@ -113,7 +113,11 @@ fn loaded(rt: &impl Print) -> Module {
 // The module settled within a budget of ticks.
 fn settle_within(rt: &impl Print, m: Module, budget: u32) -> Module {
     let outcome = settle(m, budget);
-    show(rt, Given::from(outcome.answer));
+    let given = match outcome.answer {
+        Ok(ticks) => Given::Number(ticks as usize),
+        Err(why) => Given::Refused(why),
+    };
+    show(rt, given);
     outcome.next
 }
 
@@ -137,7 +141,10 @@ fn look(m: Module, step: Step) -> Option<Given> {
         Word::Line => Some(Given::Number(usize::from(alarm_line(m)))),
         Word::Count => Some(Given::Number(usize::from(counter(m)))),
         Word::Stored => Some(Given::Stored(stored(m, (decimal(first) % 256) as u8))),
-        Word::Unsaved => Some(Given::from(unsaved(m))),
+        Word::Unsaved => Some(match unsaved(m) {
+            Ok(bytes) => Given::Unsaved(bytes),
+            Err(why) => Given::Refused(why),
+        }),
         Word::Changed => Some(Given::Number(changed(m))),
         Word::Tenths => Some(Given::Tenths(tenths(signed_code((first % 0x1_0000) as u16)))),
         Word::Near => Some(Given::Number(near())),

@@ -1,5 +1,5 @@
 // What a step gives, behind an equals sign.
-use answers::{Answer, FrameAnswer, Refusal, SettleAnswer, TickAnswer, UnsavedAnswer};
+use answers::{FrameAnswer, Refusal, TickAnswer};
 use calls::CallAnswer;
 use std::fmt;
 use std::fmt::Display;
@@ -18,39 +18,15 @@ pub enum Given {
     Unknown,
 }
 
-impl From<Answer> for Given {
-    fn from(answer: Answer) -> Given {
-        match answer {
-            Answer::Accepted => Given::Accepted,
-            Answer::Refused(why) => Given::Refused(why),
-        }
-    }
-}
-
 impl From<CallAnswer> for Given {
     fn from(answer: CallAnswer) -> Given {
         match answer {
-            CallAnswer::Plain(a) => Given::from(a),
-            CallAnswer::Frame(a) => Given::Frame(a),
-            CallAnswer::Tick(a) => Given::Tick(a),
-        }
-    }
-}
-
-impl From<SettleAnswer> for Given {
-    fn from(answer: SettleAnswer) -> Given {
-        match answer {
-            SettleAnswer::Ticks(n) => Given::Number(n as usize),
-            SettleAnswer::Refused(why) => Given::Refused(why),
-        }
-    }
-}
-
-impl From<UnsavedAnswer> for Given {
-    fn from(answer: UnsavedAnswer) -> Given {
-        match answer {
-            UnsavedAnswer::Bytes(n) => Given::Unsaved(n),
-            UnsavedAnswer::Refused(why) => Given::Refused(why),
+            CallAnswer::Plain(Ok(())) => Given::Accepted,
+            CallAnswer::Frame(Ok(given)) => Given::Frame(given),
+            CallAnswer::Tick(Ok(given)) => Given::Tick(given),
+            CallAnswer::Plain(Err(why))
+            | CallAnswer::Frame(Err(why))
+            | CallAnswer::Tick(Err(why)) => { Given::Refused(why) }
         }
     }
 }
@@ -72,10 +48,8 @@ impl Display for Given {
             Given::Tick(TickAnswer::Burned(offset, byte)) => {
                 write!(f, "=burned={offset}={byte:04x}")
             }
-            Given::Frame(FrameAnswer::Refused(why))
-            | Given::Tick(TickAnswer::Refused(why))
-            | Given::Refused(why) => {
-                let number = why.number();
+            Given::Refused(why) => {
+                let number = u8::from(why);
                 write!(f, "={number}")
             }
             Given::Unsaved(n) => write!(f, "=bytes={n}"),
