@@ -1,7 +1,9 @@
 // The modules that a sheet makes.
-use crate::print::plain;
-use crate::sheet::{CODES, IMAGE, Step, decimal};
+use crate::print::{Given, show};
+use crate::sheet::{Step, Word, decimal};
+use calls::CallAnswer;
 use creation::make;
+use std::array;
 use xenpak::Module;
 
 // High alarm, low alarm, high warning, low warning: temperature 4600, F600, 4100, FB00; bias 9C40, 0FA0, 8CA0, 1388;
@@ -31,16 +33,16 @@ impl Parts {
 
     // After a step.
     pub fn after(mut self, step: Step) -> Parts {
-        let word = step.word;
-        match word {
-            IMAGE => {
-                self.image = decimal(step.first);
-                self.checksum = (step.second % 256) as u8;
+        let [first, second, third] = step.numbers;
+        match step.word {
+            Word::Image => {
+                self.image = decimal(first);
+                self.checksum = (second % 256) as u8;
             }
-            CODES => {
-                self.thresholds = decimal(step.first);
-                self.at = decimal(step.second);
-                self.code = (step.third % 0x1_0000) as u16;
+            Word::Codes => {
+                self.thresholds = decimal(first);
+                self.at = decimal(second);
+                self.code = (third % 0x1_0000) as u16;
             }
             _ => {}
         }
@@ -49,10 +51,7 @@ impl Parts {
 
     // Each byte is its offset, but the checksum at 118; F7 is right. One byte more.
     fn image(self) -> [u8; 257] {
-        let mut bytes = [0; 257];
-        for i in 0..256 {
-            bytes[i] = (i % 256) as u8;
-        }
+        let mut bytes = array::from_fn(|offset| (offset % 256) as u8);
         bytes[118] = self.checksum;
         bytes
     }
@@ -61,8 +60,9 @@ impl Parts {
     fn thresholds(self) -> [u8; 41] {
         let mut bytes = THRESHOLDS;
         let at = (self.at % 40) as usize;
-        bytes[at] = (self.code / 256) as u8;
-        bytes[at + 1] = (self.code % 256) as u8;
+        let [high, low] = self.code.to_be_bytes();
+        bytes[at] = high;
+        bytes[at + 1] = low;
         bytes
     }
 
@@ -73,8 +73,9 @@ impl Parts {
         let image_end = (self.image % 258) as usize;
         let thresholds_end = (self.thresholds % 42) as usize;
         let outcome = make(port, &image[0..image_end], &thresholds[0..thresholds_end]);
-        let answer = outcome.answer;
-        plain(rt, answer, asks);
+        if asks {
+            show(rt, Given::from(CallAnswer::Plain(outcome.answer)));
+        }
         outcome.next
     }
 }

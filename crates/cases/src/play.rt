@@ -1,9 +1,8 @@
 // How a sheet's steps are run.
-ghost use Rattle.std.specs.Prelude.{◌≤◌};
-
 use crate::bench::{Parts, fresh};
-use crate::print::{answered, number, settled, signed, text};
-use crate::sheet::*;
+use crate::print::{Given, show};
+use crate::readout::{halves, near};
+use crate::sheet::{Step, Word, decimal};
 use alarms::Lines;
 use calls::Call;
 use dom::readout::tenths;
@@ -22,6 +21,7 @@ const READ_FRAME: u32 = 0x3284_0000;
 
 const READ_INCREMENT_FRAME: u32 = 0x2284_0000;
 
+// A lines call: in `levels` bit 2 is the signal, bit 1 the block, bit 0 the lanes.
 fn lines(receive: u32, transmit: u32, levels: u32) -> Call {
     Call::Lines(Lines {
         receive: (receive % 0x1_0000) as u16,
@@ -32,6 +32,7 @@ fn lines(receive: u32, transmit: u32, levels: u32) -> Call {
     })
 }
 
+// A sample call of these codes.
 fn sample(temperature: u16, bias: u16, transmit: u16, receive: u16) -> Call {
     Call::Sample(Sample {
         temperature: signed_code(temperature),
@@ -41,33 +42,35 @@ fn sample(temperature: u16, bias: u16, transmit: u16, receive: u16) -> Call {
     })
 }
 
-// The call of a step that makes one.
-fn call_of(word: u64, a: u32, b: u32, c: u32) -> Call {
-    let code = (a % 0x1_0000) as u16;
-    match word {
-        ON => Call::PowerOn,
-        CUT => Call::Cut(Cut::Clean),
-        TORN => Call::Cut(Cut::Torn((a % 256) as u8)),
-        PIN => Call::ResetPin,
-        FRAME => Call::Frame(a),
-        TICK => Call::Tick,
-        LINES => lines(a, b, c),
-        TEMP => sample(code, 0x4e20, 0x5000, 0x5000),
-        BIAS => sample(0x1900, code, 0x5000, 0x5000),
-        TRANSMIT => sample(0x1900, 0x4e20, code, 0x5000),
-        RECEIVE => sample(0x1900, 0x4e20, 0x5000, code),
-        WRITE => Call::Frame(WRITE_FRAME + b % 0x1_0000),
-        WALK => Call::Frame(READ_INCREMENT_FRAME),
-        _ => Call::Frame(READ_FRAME),
+// The call that a step makes, if it makes one.
+fn call_of(step: Step) -> Option<Call> {
+    let [first, second, third] = step.numbers;
+    let code = (first % 0x1_0000) as u16;
+    match step.word {
+        Word::On => Some(Call::PowerOn),
+        Word::Cut => Some(Call::Cut(Cut::Clean)),
+        Word::Torn => Some(Call::Cut(Cut::Torn((first % 256) as u8))),
+        Word::Pin => Some(Call::ResetPin),
+        Word::Frame => Some(Call::Frame(first)),
+        Word::Tick => Some(Call::Tick),
+        Word::Lines => Some(lines(first, second, third)),
+        Word::Temp => Some(sample(code, 0x4e20, 0x5000, 0x5000)),
+        Word::Bias => Some(sample(0x1900, code, 0x5000, 0x5000)),
+        Word::Transmit => Some(sample(0x1900, 0x4e20, code, 0x5000)),
+        Word::Receive => Some(sample(0x1900, 0x4e20, 0x5000, code)),
+        Word::Write => Some(Call::Frame(WRITE_FRAME + second % 0x1_0000)),
+        Word::Walk => Some(Call::Frame(READ_INCREMENT_FRAME)),
+        Word::Read | Word::Again => Some(Call::Frame(READ_FRAME)),
+        _ => None,
     }
 }
 
 // How many times it is made.
-fn times(word: u64, a: u32, b: u32) -> u32 {
-    match word {
-        TICK => decimal(a),
-        AGAIN => decimal(a),
-        WALK => decimal(b),
+fn times(step: Step) -> u32 {
+    let [first, second, _] = step.numbers;
+    match step.word {
+        Word::Tick | Word::Again => decimal(first),
+        Word::Walk => decimal(second),
         _ => 1,
     }
 }
@@ -75,8 +78,9 @@ fn times(word: u64, a: u32, b: u32) -> u32 {
 // The module after a call, whose answer is shown if it is asked for.
 fn once(rt: &impl Print, m: Module, call: Call, asks: bool) -> Module {
     let outcome = call.on(m);
-    let answer = outcome.answer;
-    answered(rt, answer, asks);
+    if asks {
+        show(rt, Given::from(outcome.answer));
+    }
     outcome.next
 }
 
@@ -88,21 +92,14 @@ fn repeated(rt: &impl Print, mut m: Module, call: Call, n: u32, asks: bool) -> M
     m
 }
 
-// A step that makes a call; to write, read or walk, an address frame first.
-fn called(rt: &impl Print, m: Module, step: Step) -> Module {
-    let word = step.word;
-    let call = call_of(word, step.first, step.second, step.third);
-    let n = times(word, step.first, step.second);
-    match word {
-        WRITE | READ | WALK => {
-            let addressed = once(
-                rt,
-                m,
-                Call::Frame(ADDRESS_FRAME + step.first % 0x1_0000),
-                false,
-            );
-            repeated(rt, addressed, call, n, step.asks | (word != WRITE))
-        }
+// A step that makes a call; to write, read or walk, an address frame first. What is read is always shown.
+fn called(rt: &impl Print, m: Module, step: Step, call: Call) -> Module {
+    let n = times(step);
+    let [first, _, _] = step.numbers;
+    let address = Call::Frame(ADDRESS_FRAME + first % 0x1_0000);
+    match step.word {
+        Word::Write => repeated(rt, once(rt, m, address, false), call, n, step.asks),
+        Word::Read | Word::Walk => repeated(rt, once(rt, m, address, false), call, n, true),
         _ => repeated(rt, m, call, n, step.asks),
     }
 }
@@ -113,105 +110,89 @@ fn loaded(rt: &impl Print) -> Module {
     repeated(rt, powered, Call::Tick, 256, false)
 }
 
+// The module settled within a budget of ticks.
 fn settle_within(rt: &impl Print, m: Module, budget: u32) -> Module {
     let outcome = settle(m, budget);
-    let answer = outcome.answer;
-    settled(rt, answer);
+    let given = match outcome.answer {
+        Ok(ticks) => Given::Number(ticks as usize),
+        Err(why) => Given::Refused(why),
+    };
+    show(rt, given);
     outcome.next
 }
 
 // The same module with so many data answers counted.
 fn counted(mut m: Module, n: u32) -> Module {
-    let count = (n % 0x1_0000) as u16;
-    m.bus.counter = count;
+    m.bus.counter = (n % 0x1_0000) as u16;
     m
 }
 
-// 1 where the stored byte is not its offset.
-fn differs(m: Module, offset: u8) -> u32
-    ensures { result ≤ 1 }
-{
-    if stored(m, offset) == offset { 0 } else { 1 }
-}
-
 // How many stored bytes are not their offset.
-fn changed(m: Module) -> u32 {
-    let mut count = 0;
-    for offset in 0..256u32 {
-        count += differs(m, offset as u8);
-    }
-    count
+fn changed(m: Module) -> usize {
+    (0..=255)
+        .filter(|offset| stored(m, *offset) != *offset)
+        .count()
 }
 
-// A step that looks at the module, or at the readout.
-fn look(rt: &impl Print, m: Module, step: Step) {
-    let word = step.word;
-    match word {
-        LINE => number(rt, alarm_line(m) as u32),
-        COUNT => number(rt, counter(m) as u32),
-        STORED => crate::print::word(rt, stored(m, (decimal(step.first) % 256) as u8) as u16),
-        UNSAVED => crate::print::unsaved(rt, unsaved(m)),
-        CHANGED => number(rt, changed(m)),
-        TENTHS => signed(rt, tenths(signed_code((step.first % 0x1_0000) as u16))),
-        NEAR | HALVES => number(rt, crate::readout::count(word)),
-        MARK | BACK | IMAGE | CODES => {}
-        _ => text(rt, b"=?"),
+// What a step has found that looks at the module, or at the readout.
+fn look(m: Module, step: Step) -> Option<Given> {
+    let [first, _, _] = step.numbers;
+    match step.word {
+        Word::Line => Some(Given::Number(usize::from(alarm_line(m)))),
+        Word::Count => Some(Given::Number(usize::from(counter(m)))),
+        Word::Stored => Some(Given::Stored(stored(m, (decimal(first) % 256) as u8))),
+        Word::Unsaved => Some(match unsaved(m) {
+            Ok(bytes) => Given::Unsaved(bytes),
+            Err(why) => Given::Refused(why),
+        }),
+        Word::Changed => Some(Given::Number(changed(m))),
+        Word::Tenths => Some(Given::Tenths(tenths(signed_code((first % 0x1_0000) as u16)))),
+        Word::Near => Some(Given::Number(near())),
+        Word::Halves => Some(Given::Number(halves())),
+        Word::Unknown => Some(Given::Unknown),
+        _ => None,
     }
 }
 
 // The module after a step; `parts` are those of the next making.
 fn after(rt: &impl Print, m: Module, parts: Parts, step: Step) -> Module {
-    let word = step.word;
-    match word {
-        ON
-        | CUT
-        | TORN
-        | PIN
-        | FRAME
-        | TICK
-        | LINES
-        | TEMP
-        | BIAS
-        | TRANSMIT
-        | RECEIVE
-        | WRITE
-        | READ
-        | WALK
-        | AGAIN => { called(rt, m, step) }
-        MAKE => parts.made(rt, (decimal(step.first) % 256) as u8, step.asks),
-        FRESH => fresh(rt),
-        LOADED => loaded(rt),
-        SETTLE => settle_within(rt, m, decimal(step.first)),
-        COUNTED => counted(m, decimal(step.first)),
+    let [first, _, _] = step.numbers;
+    match step.word {
+        Word::Make => parts.made(rt, (decimal(first) % 256) as u8, step.asks),
+        Word::Fresh => fresh(rt),
+        Word::Loaded => loaded(rt),
+        Word::Settle => settle_within(rt, m, decimal(first)),
+        Word::Counted => counted(m, decimal(first)),
         _ => {
-            look(rt, m, step);
+            if let Some(call) = call_of(step) {
+                return called(rt, m, step, call);
+            }
+            if let Some(given) = look(m, step) {
+                show(rt, given);
+            }
             m
         }
     }
 }
 
-// Plays a sheet, and writes it again with what its steps give.
+// Plays a sheet, and writes it again with what its steps give. Where standard output fails, the play goes on.
 pub fn play(rt: &impl Print, sheet: &[u8]) {
     let mut m = fresh(rt);
     let mut marked = m;
     let mut parts = Parts::RIGHT;
     let mut step = Step::NONE;
-    let mut i = 0;
-    while i < sheet.len() {
-        let byte = sheet[i];
-        step = step.fed(byte);
+    for byte in sheet {
+        step = step.fed(*byte);
         if step.ready {
             m = after(rt, m, parts, step);
             parts = parts.after(step);
-            if step.word == MARK {
-                marked = m;
-            }
-            if step.word == BACK {
-                m = marked;
+            match step.word {
+                Word::Mark => marked = m,
+                Word::Back => m = marked,
+                _ => {}
             }
             step = step.done();
         }
-        text(rt, &[byte]);
-        i += 1;
+        let _ = rt.write_all(&[*byte]);
     }
 }

@@ -1,100 +1,67 @@
-// What a step gave, behind an equals sign.
-use crate::readout::size;
-use answers::{Answer, FrameAnswer, Refusal, SettleAnswer, TickAnswer, UnsavedAnswer};
+// What a step gives, behind an equals sign.
+use answers::{FrameAnswer, Refusal, TickAnswer};
 use calls::CallAnswer;
+use std::fmt;
+use std::fmt::Display;
+
+// What a step gives: the answer of a call, or what it has found.
+#[derive(Clone, Copy)]
+pub enum Given {
+    Accepted,
+    Frame(FrameAnswer),
+    Tick(TickAnswer),
+    Refused(Refusal),
+    Unsaved(u8),
+    Number(usize),
+    Tenths(i16),
+    Stored(u8),
+    Unknown,
+}
+
+impl From<CallAnswer> for Given {
+    fn from(answer: CallAnswer) -> Given {
+        match answer {
+            CallAnswer::Plain(Ok(())) => Given::Accepted,
+            CallAnswer::Frame(Ok(given)) => Given::Frame(given),
+            CallAnswer::Tick(Ok(given)) => Given::Tick(given),
+            CallAnswer::Plain(Err(why))
+            | CallAnswer::Frame(Err(why))
+            | CallAnswer::Tick(Err(why)) => { Given::Refused(why) }
+        }
+    }
+}
+
+// Data and stored bytes have four hexadecimal digits, a refusal its number, and all else decimal numbers.
+impl Display for Given {
+    fn fmt<W: fmt::Write>(&self, f: &mut fmt::Formatter<W>) -> fmt::Result {
+        match *self {
+            Given::Accepted => f.write_str("=ok"),
+            Given::Frame(FrameAnswer::Silent) => f.write_str("=silent"),
+            Given::Frame(FrameAnswer::Set) => f.write_str("=set"),
+            Given::Frame(FrameAnswer::Written) => f.write_str("=written"),
+            Given::Frame(FrameAnswer::Dropped) => f.write_str("=dropped"),
+            Given::Frame(FrameAnswer::Data(value)) => write!(f, "={value:04x}"),
+            Given::Tick(TickAnswer::Nothing) => f.write_str("=nothing"),
+            Given::Tick(TickAnswer::Loaded(offset, byte)) => {
+                write!(f, "=loaded={offset}={byte:04x}")
+            }
+            Given::Tick(TickAnswer::Burned(offset, byte)) => {
+                write!(f, "=burned={offset}={byte:04x}")
+            }
+            Given::Refused(why) => {
+                let number = u8::from(why);
+                write!(f, "={number}")
+            }
+            Given::Unsaved(n) => write!(f, "=bytes={n}"),
+            Given::Number(n) => write!(f, "={n}"),
+            Given::Tenths(n) => write!(f, "={n}"),
+            Given::Stored(byte) => write!(f, "={byte:04x}"),
+            Given::Unknown => f.write_str("=?"),
+        }
+    }
+}
 
 // Where standard output fails, the play goes on.
-pub fn text(rt: &impl Print, s: &[u8]) {
-    let _ = rt.write_all(s);
-}
-
-// Four hexadecimal digits.
-pub fn word(rt: &impl Print, n: u16) {
-    let _ = print!(rt; "={n:04x}");
-}
-
-// A decimal number.
-pub fn number(rt: &impl Print, n: u32) {
-    let _ = print!(rt; "={n}");
-}
-
-// A decimal number with its sign.
-pub fn signed(rt: &impl Print, n: i16) {
-    text(rt, b"=");
-    if n < 0 {
-        text(rt, b"-");
-    }
-    let magnitude = size(n);
-    let _ = print!(rt; "{magnitude}");
-}
-
-// Document 01's number of a refusal.
-fn refusal(rt: &impl Print, why: Refusal) {
-    number(rt, why.number() as u32);
-}
-
-pub fn plain(rt: &impl Print, answer: Answer, asks: bool) {
-    if asks {
-        match answer {
-            Answer::Accepted => text(rt, b"=ok"),
-            Answer::Refused(why) => refusal(rt, why),
-        }
-    }
-}
-
-fn framed(rt: &impl Print, answer: FrameAnswer) {
-    match answer {
-        FrameAnswer::Silent => text(rt, b"=silent"),
-        FrameAnswer::Set => text(rt, b"=set"),
-        FrameAnswer::Written => text(rt, b"=written"),
-        FrameAnswer::Dropped => text(rt, b"=dropped"),
-        FrameAnswer::Data(value) => word(rt, value),
-        FrameAnswer::Refused(why) => refusal(rt, why),
-    }
-}
-
-// A tick's offset and byte.
-fn moved(rt: &impl Print, name: &[u8], offset: u8, byte: u8) {
-    text(rt, name);
-    number(rt, offset as u32);
-    word(rt, byte as u16);
-}
-
-fn ticked(rt: &impl Print, answer: TickAnswer) {
-    match answer {
-        TickAnswer::Nothing => text(rt, b"=nothing"),
-        TickAnswer::Loaded(offset, byte) => moved(rt, b"=loaded", offset, byte),
-        TickAnswer::Burned(offset, byte) => moved(rt, b"=burned", offset, byte),
-        TickAnswer::Refused(why) => refusal(rt, why),
-    }
-}
-
-pub fn settled(rt: &impl Print, answer: SettleAnswer) {
-    match answer {
-        SettleAnswer::Ticks(n) => number(rt, n),
-        SettleAnswer::Refused(why) => refusal(rt, why),
-    }
-}
-
-pub fn unsaved(rt: &impl Print, answer: UnsavedAnswer) {
-    match answer {
-        UnsavedAnswer::Bytes(n) => {
-            text(rt, b"=bytes");
-            number(rt, n as u32)
-        }
-        UnsavedAnswer::Refused(why) => refusal(rt, why),
-    }
-}
-
-// The answer to a call, if it is asked for.
-pub fn answered(rt: &impl Print, answer: CallAnswer, asks: bool) {
-    match answer {
-        CallAnswer::Plain(a) => plain(rt, a, asks),
-        CallAnswer::Frame(a) => if asks {
-            framed(rt, a)
-        },
-        CallAnswer::Tick(a) => if asks {
-            ticked(rt, a)
-        },
-    }
+pub fn show(rt: &impl Print, given: Given) {
+    let _ = rt.print(given);
 }

@@ -1,92 +1,154 @@
 // A bench sheet's bytes, taken one at a time into steps: a word, and the numbers after it.
 ghost use Rattle.std.specs.Prelude.{◌≤◌};
 
-// The words, each as the number that its letters make. The sheet's head says what they do.
-pub const ON: u64 = 0x6f6e;
+// The words of a sheet, whose head says what they do; and one word for all others.
+#[derive(Clone, Copy, PartialEq, Eq)]
+pub enum Word {
+    On,
+    Cut,
+    // Document 01: struck.
+    Torn,
+    Pin,
+    Frame,
+    Tick,
+    Lines,
+    Temp,
+    Bias,
+    Transmit,
+    Receive,
+    Write,
+    Read,
+    Walk,
+    Again,
+    Image,
+    Codes,
+    Make,
+    Fresh,
+    Loaded,
+    Mark,
+    Back,
+    Settle,
+    Line,
+    Count,
+    Counted,
+    Stored,
+    Unsaved,
+    Changed,
+    Tenths,
+    Near,
+    Halves,
+    Unknown,
+}
 
-pub const CUT: u64 = 0x63_7574;
+impl Word {
+    // How many numbers a word takes.
+    fn numbers(self) -> u8 {
+        match self {
+            Word::Torn
+            | Word::Frame
+            | Word::Tick
+            | Word::Temp
+            | Word::Bias
+            | Word::Transmit
+            | Word::Receive
+            | Word::Read
+            | Word::Again
+            | Word::Settle
+            | Word::Counted
+            | Word::Stored
+            | Word::Tenths
+            | Word::Make => 1,
+            Word::Write | Word::Walk | Word::Image => 2,
+            Word::Lines | Word::Codes => 3,
+            _ => 0,
+        }
+    }
+}
 
-// Document 01: struck.
-pub const TORN: u64 = 0x746f_726e;
+// The last eight letters of a word, the latest last; in front of fewer stand zeros.
+#[derive(Clone, Copy)]
+struct Letters {
+    last: [u8; 8],
+}
 
-pub const PIN: u64 = 0x70_696e;
+impl Letters {
+    const NONE: Letters = Letters { last: [0; 8] };
 
-pub const FRAME: u64 = 0x66_7261_6d65;
+    // These and one more.
+    fn with(self, letter: u8) -> Letters {
+        let [_, a, b, c, d, e, f, g] = self.last;
+        Letters {
+            last: [a, b, c, d, e, f, g, letter],
+        }
+    }
+}
 
-pub const TICK: u64 = 0x7469_636b;
-
-pub const LINES: u64 = 0x6c_696e_6573;
-
-pub const TEMP: u64 = 0x7465_6d70;
-
-pub const BIAS: u64 = 0x6269_6173;
-
-pub const TRANSMIT: u64 = 0x7472_616e_736d_6974;
-
-pub const RECEIVE: u64 = 0x72_6563_6569_7665;
-
-pub const WRITE: u64 = 0x77_7269_7465;
-
-pub const READ: u64 = 0x7265_6164;
-
-pub const WALK: u64 = 0x7761_6c6b;
-
-pub const AGAIN: u64 = 0x61_6761_696e;
-
-pub const IMAGE: u64 = 0x69_6d61_6765;
-
-pub const CODES: u64 = 0x63_6f64_6573;
-
-pub const MAKE: u64 = 0x6d61_6b65;
-
-pub const FRESH: u64 = 0x66_7265_7368;
-
-pub const LOADED: u64 = 0x6c6f_6164_6564;
-
-pub const MARK: u64 = 0x6d61_726b;
-
-pub const BACK: u64 = 0x6261_636b;
-
-pub const SETTLE: u64 = 0x7365_7474_6c65;
-
-pub const LINE: u64 = 0x6c69_6e65;
-
-pub const COUNT: u64 = 0x63_6f75_6e74;
-
-pub const COUNTED: u64 = 0x63_6f75_6e74_6564;
-
-pub const STORED: u64 = 0x7374_6f72_6564;
-
-pub const UNSAVED: u64 = 0x75_6e73_6176_6564;
-
-pub const CHANGED: u64 = 0x63_6861_6e67_6564;
-
-pub const TENTHS: u64 = 0x7465_6e74_6873;
-
-pub const NEAR: u64 = 0x6e65_6172;
-
-pub const HALVES: u64 = 0x6861_6c76_6573;
+impl From<Letters> for Word {
+    // The word that the letters spell: in a longer one only the last eight letters count.
+    fn from(letters: Letters) -> Word {
+        let start = letters
+            .last
+            .iter()
+            .position(|letter| *letter != 0)
+            .unwrap_or(8);
+        match &letters.last[start..] {
+            b"on" => Word::On,
+            b"cut" => Word::Cut,
+            b"torn" => Word::Torn,
+            b"pin" => Word::Pin,
+            b"frame" => Word::Frame,
+            b"tick" => Word::Tick,
+            b"lines" => Word::Lines,
+            b"temp" => Word::Temp,
+            b"bias" => Word::Bias,
+            b"transmit" => Word::Transmit,
+            b"receive" => Word::Receive,
+            b"write" => Word::Write,
+            b"read" => Word::Read,
+            b"walk" => Word::Walk,
+            b"again" => Word::Again,
+            b"image" => Word::Image,
+            b"codes" => Word::Codes,
+            b"make" => Word::Make,
+            b"fresh" => Word::Fresh,
+            b"loaded" => Word::Loaded,
+            b"mark" => Word::Mark,
+            b"back" => Word::Back,
+            b"settle" => Word::Settle,
+            b"line" => Word::Line,
+            b"count" => Word::Count,
+            b"counted" => Word::Counted,
+            b"stored" => Word::Stored,
+            b"unsaved" => Word::Unsaved,
+            b"changed" => Word::Changed,
+            b"tenths" => Word::Tenths,
+            b"near" => Word::Near,
+            b"halves" => Word::Halves,
+            _ => Word::Unknown,
+        }
+    }
+}
 
 // What the latest byte is part of.
-const GAP: u8 = 0;
+#[derive(Clone, Copy, PartialEq, Eq)]
+enum Part {
+    Gap,
+    Word,
+    Number,
+    Comment,
+}
 
-const IN_WORD: u8 = 1;
-
-const IN_NUMBER: u8 = 2;
-
-const IN_COMMENT: u8 = 3;
-
+// A step as far as it has been read.
 #[derive(Clone, Copy)]
 pub struct Step {
-    pub word: u64,
+    letters: Letters,
+    pub word: Word,
     // A '?' follows the word: the answer is shown.
     pub asks: bool,
     // Its numbers, hexadecimal, and how many have ended.
-    pub first: u32,
-    pub second: u32,
-    pub third: u32,
-    count: u8,
-    inside: u8,
+    pub numbers: [u32; 3],
+    ended: u8,
+    part: Part,
     // The last number of the step has just ended.
     pub ready: bool,
 }
@@ -103,99 +165,65 @@ pub fn decimal(digits: u32) -> u32 {
     two_digits(digits / 0x1_0000) * 10_000 + two_digits(digits / 0x100) * 100 + two_digits(digits)
 }
 
-// How many numbers a word takes.
-fn numbers_of(word: u64) -> u8 {
-    match word {
-        TORN
-        | FRAME
-        | TICK
-        | TEMP
-        | BIAS
-        | TRANSMIT
-        | RECEIVE
-        | READ
-        | AGAIN
-        | SETTLE
-        | COUNTED
-        | STORED
-        | TENTHS
-        | MAKE => 1,
-        WRITE | WALK | IMAGE => 2,
-        LINES | CODES => 3,
-        _ => 0,
-    }
-}
-
 // A number and one more digit.
 fn extended(number: u32, digit: u8) -> u32 {
-    number % 0x1000_0000 * 16 + (digit % 16) as u32
+    number % 0x1000_0000 * 16 + u32::from(digit % 16)
 }
 
 impl Step {
     pub const NONE: Step = Step {
-        word: 0,
+        letters: Letters::NONE,
+        word: Word::Unknown,
         asks: false,
-        first: 0,
-        second: 0,
-        third: 0,
-        count: 0,
-        inside: GAP,
+        numbers: [0; 3],
+        ended: 0,
+        part: Part::Gap,
         ready: false,
     };
 
     // The same word once more, its numbers still to come.
-    pub fn done(mut self) -> Step {
-        self.first = 0;
-        self.second = 0;
-        self.third = 0;
-        self.count = 0;
-        self.ready = false;
-        self
+    pub fn done(self) -> Step {
+        Step {
+            numbers: [0; 3],
+            ended: 0,
+            ready: false,
+            ..self
+        }
     }
 
+    // A letter: the first of a word begins a step.
     fn letter(mut self, byte: u8) -> Step {
-        if self.inside != IN_WORD {
+        if self.part != Part::Word {
             self = Step::NONE;
-            self.inside = IN_WORD;
+            self.part = Part::Word;
         }
-        self.word = self.word % 0x100_0000_0000_0000 * 256 + byte as u64;
+        self.letters = self.letters.with(byte);
+        self.word = Word::from(self.letters);
         self
     }
 
+    // A digit of the number that has not ended, or of the third.
     fn digit(mut self, digit: u8) -> Step {
-        let count = self.count;
-        match count {
-            0 => {
-                self.first = extended(self.first, digit);
-            }
-            1 => {
-                self.second = extended(self.second, digit);
-            }
-            _ => {
-                self.third = extended(self.third, digit);
-            }
-        }
-        self.inside = IN_NUMBER;
+        let at = usize::from(self.ended.min(2));
+        self.numbers[at] = extended(self.numbers[at], digit);
+        self.part = Part::Number;
         self
     }
 
     // A word or a number ends.
     fn gap(mut self) -> Step {
-        if self.inside == IN_NUMBER {
-            self.count = self.count % 3 + 1;
+        if self.part == Part::Number {
+            self.ended = self.ended % 3 + 1;
         }
-        self.ready = (self.inside != GAP) & (self.count == numbers_of(self.word));
-        self.inside = GAP;
+        self.ready = self.part != Part::Gap && self.ended == self.word.numbers();
+        self.part = Part::Gap;
         self
     }
 
     // The step after a byte of the sheet: words are lower case, numbers upper case; '#' starts a comment.
     pub fn fed(mut self, byte: u8) -> Step {
-        if self.inside == IN_COMMENT {
-            if byte == b'\n' {
-                return Step::NONE;
-            }
-            return self;
+        if self.part == Part::Comment {
+            return if byte == b'\n' { Step::NONE } else { self };
         }
         match byte {
             b'a'..=b'z' => self.letter(byte),
@@ -206,7 +234,7 @@ impl Step {
                 self
             }
             b'#' => {
-                self.inside = IN_COMMENT;
+                self.part = Part::Comment;
                 self
             }
             _ => self.gap(),

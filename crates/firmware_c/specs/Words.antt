@@ -1,11 +1,10 @@
 -- Answers for C: numbers in the place of enums.
 -- Assumes nothing.
 use Rattle.std.specs.Prelude.{ℕ, ◌+◌, ◌*◌, List, [], ◌∷◌}
-use Rattle.answers.specs.Answers.{Said, said_plain, said_settle}
+use Rattle.answers.specs.Answers.{Answer, Said, said_plain, said_settle}
 use Rattle.xenpak.specs.declared.Outcome.{Outcome}
-use Rattle.settling.specs.declared.SettleOutcome.{SettleOutcome}
-use Rattle.firmware.specs.declared.calls.Called.{Called}
-use Rattle.firmware.specs.declared.calls.Settled.{Settled}
+use Rattle.firmware_c.specs.declared.calls.Called.{Called}
+use Rattle.firmware_c.specs.declared.calls.Settled.{Settled}
 
 -- an answer's values as one number: a value, or offset and byte
 abbrev pub value_of : List ℕ → ℕ
@@ -18,9 +17,9 @@ abbrev pub answer_word : Said → ℕ
 answer_word s = s.refusal * 0x1000000 + s.which * 0x10000 + value_of s.values
 
 -- the outcome of a call that only is accepted or refused
-abbrev pub called_by : Outcome → Called
+abbrev pub called_by : Outcome (Answer (Unit {0})) → Called
 called_by o = record { next = o.next; refusal = (said_plain o.answer).refusal }
 
 -- the outcome of settling
-abbrev pub settled_by : SettleOutcome → Settled
+abbrev pub settled_by : Outcome (Answer ℕ) → Settled
 settled_by o = record { next = o.next; ticks = value_of (said_settle o.answer).values; refusal = (said_settle o.answer).refusal }

@@ -1,2 +1,0 @@
--- What the contracts of `firmware` cite.
-pub mod Words

@@ -1,0 +1,2 @@
+-- What the contracts of `firmware_c` cite.
+pub mod Words
