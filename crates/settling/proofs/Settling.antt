@@ -36,13 +36,6 @@ tick-done : (m : Module) → m.powered ≡ true → is_busy m.job ≡ true → d
 unfolding tick
 tick-done m on h = rw on (byte-done m.job h)
 
-none-due : (j : Job) → is_busy j ≡ false → due j ≡ 0
-none-due j h = go (eqb j.kind none) refl
-  where
-    go : (b : Bool) → eqb j.kind none ≡ b → due j ≡ 0
-    go true p = rw p
-    go false p = absurd (let z : ◌≡◌ {A = ℕ} 0 1 = cc in omega arith)
-
 tick-powered : (m : Module) → (tick m).next.powered ≡ m.powered
 unfolding tick
 tick-powered m = refl
