@@ -2,103 +2,59 @@
 // recording and that file, and so on.
 #![tactic(auto)]
 
-ghost use Rattle.std.specs.Prelude.{◌≤◌, length};
-ghost use Rattle.io.specs.Counts.{IsPrefixLen};
-
 use player::Player;
+use reading::read_full;
 use std::env::{Env, FillError};
 use std::fs;
-use std::fs::File;
-use std::io::Read;
 
+// Where standard output fails, the play goes on.
 fn say(rt: &HostRuntime, text: &[u8]) {
     let _ = rt.write_all(text);
 }
 
-// Puts an argument at the front of the text; its length, 0 where it is missing or longer than the text.
-fn argument(rt: &HostRuntime, i: usize, text: &mut [u8]) -> usize
-    ensures { result ≤ length text.new }
-{
-    rt.arg(i, text).unwrap_or(0)
-}
-
-// How many arguments there are, the program's own name among them.
-fn argument_count(rt: &HostRuntime) -> usize {
-    let mut text = [0; 4096];
-    for count in 0..usize::MAX {
-        if let Err(FillError::NotPresent) = rt.arg(count, &mut text) {
-            return count;
-        }
+// An argument, which this text has room for: none past the last, and an empty one where it is longer than the text.
+fn argument<'a>(rt: &HostRuntime, i: usize, text: &'a mut [u8]) -> Option<&'a [u8]> {
+    match rt.arg(i, text) {
+        Ok(length) => Some(&text[..length]),
+        Err(FillError::TooLong) => Some(&[]),
+        Err(FillError::NotPresent) => None,
     }
-    usize::MAX
 }
 
-// Says an argument.
-fn name(rt: &HostRuntime, i: usize) {
-    let mut text = [0; 4096];
-    let length = argument(rt, i, &mut text);
-    say(rt, &text[..length]);
-}
-
-// Reads until the buffer is full, the file ends or a read fails; how many bytes are at the buffer's start.
-fn read_full(mut file: File, into: &mut [u8]) -> usize
-    ensures { IsPrefixLen result into.new }
-{
-    let mut done = 0;
-    while done < into.len() {
-        match file.read(&mut into[done..]) {
-            Ok(0) => {
-                break;
-            }
-            Ok(n) => {
-                done += n;
-            }
-            Err(_) => {
-                break;
-            }
-        }
-    }
-    done
-}
-
-// Reads the file that an argument names, as far as there is room; none where the name is no text.
-fn contents(rt: &HostRuntime, i: usize, into: &mut [u8]) -> usize
-    ensures { IsPrefixLen result into.new }
-{
-    let mut path = [0; 4096];
-    let length = argument(rt, i, &mut path);
-    let Ok(path) = str::from_utf8(&path[..length]) else {
-        return 0;
+// What the file of this name has, as far as there is room; nothing where the name is no text or the file cannot be opened.
+fn contents<'a>(rt: &HostRuntime, name: &[u8], into: &'a mut [u8]) -> &'a [u8] {
+    let Ok(path) = str::from_utf8(name) else {
+        return &[];
     };
-    match fs::open(rt, path) {
-        Ok(file) => read_full(file, into),
-        Err(_) => 0,
-    }
+    let Ok(mut file) = fs::open(rt, path) else {
+        return &[];
+    };
+    let length = read_full(&mut file, into);
+    &into[..length]
 }
 
-// Plays the recording of argument i, and says whether it prints what the next one has.
-fn play(rt: &HostRuntime, i: usize, next: usize) {
-    let mut recording = [0; 4096];
-    let size = contents(rt, i, &mut recording);
-    let mut lines = [0; 122_880];
-    let played = Player::blank().play(&recording[..size], true, &mut lines);
-    let written = played.written;
+// Plays the recording of the first name, and says whether it prints what the file of the second has.
+fn play(rt: &HostRuntime, recording: &[u8], lines: &[u8]) {
+    let mut records = [0; 4096];
+    let mut printed = [0; 122_880];
     let mut expected = [0; 65_536];
-    let length = contents(rt, next, &mut expected);
-    name(rt, i);
-    if lines[..written] == expected[..length] {
-        say(rt, b": as ");
-    } else {
-        say(rt, b": not as ");
-    }
-    name(rt, next);
+    let played = Player::blank().play(contents(rt, recording, &mut records), true, &mut printed);
+    let same = &printed[..played.written] == contents(rt, lines, &mut expected);
+    say(rt, recording);
+    say(rt, if same { b": as " } else { b": not as " });
+    say(rt, lines);
     let index = played.player.index;
     let _ = println!(rt; " has it, lines {index}");
 }
 
 fn main(rt: HostRuntime) {
-    let pairs = argument_count(&rt) / 2;
-    for k in 0..pairs {
-        play(&rt, 2 * k + 1, 2 * k + 2);
+    let mut first = [0; 4096];
+    let mut second = [0; 4096];
+    for pair in 0..usize::MAX / 2 {
+        let Some(recording) = argument(&rt, 2 * pair + 1, &mut first) else {
+            return;
+        };
+        let lines = argument(&rt, 2 * pair + 2, &mut second).unwrap_or(&[]);
+        play(&rt, recording, lines);
     }
 }
