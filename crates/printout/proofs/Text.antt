@@ -3,13 +3,14 @@
 use Prim.Native.Nat.{ℕ, zero, suc, ◌+◌, ◌*◌, ◌-◌, ◌/◌, ◌%◌, ◌^◌, ◌≤◌, ◌<◌}
 use native.Mathlib.Nat.{add-zero, add-suc, suc-add, pow-suc, pow-le-pow_right}
 use native.Mathlib.Omega.{arith}
-use native.Mathlib.Numerals.{add-one, sub-one}
+use native.Mathlib.Numerals.{sub-one}
 use mathlib.Core.Bool.{Bool, true, false, cond}
-use mathlib.Core.List.{List, [], ◌∷◌, ◌++◌}
+use mathlib.Core.List.{List, [], ◌∷◌, ◌++◌, append_assoc}
 use mathlib.Core.Path.{◌≡◌, refl, sym, ap, ap₂, ◌∙◌}
 use lib.Dec.{eqb, leb, ltb}
-use lib.ListN.{length, get_or, take, set, length-append, length-set}
-use lib.Seq.{sets, length-take-le, take_all, take-suc}
+use lib.ListN.{length, take, drop, set, length-append}
+use lib.Seq.{sets, sets-eq, drop-drop}
+use borrow.Rule.Slice.PartMut.{put_mid}
 use borrow.Author.Tests.{lt-ltb, le-ltb, le-leb, lt-leb, ltb-false, leb-true, leb-false}
 use Rattle.io.specs.Digits.{hex_digit_ascii, last_digits, IsDigitCount}
 use Rattle.printout.specs.Line.{dash, digits_within, decimal, refusal_text, line_text, longest, Put, Written}
@@ -28,32 +29,6 @@ then {t} {u} {a} {i = i} p q =
       bytes = q.bytes ∙ ap₂ (λ (l : List ℕ) (n : ℕ). sets l n u) p.bytes p.ends ∙ sets-append a i t u;
       ends = omega (arith, p.ends, q.ends, length-append t u);
     }
-
--- ---- a text put one character after the other
--- the first i of its characters are put
-pub record Putting (text before : List ℕ) (at : ℕ) (after : List ℕ) (i : ℕ) : Type 0 where
-  pub within : i ≤ length text
-  pub sized : length after ≡ length before
-  pub bytes : after ≡ sets before at (take i text)
-
-pub none : (t l : List ℕ) (at : ℕ) → Putting t l at l 0
-none t l at = record { within = omega arith; sized = refl; bytes = refl }
-
-pub more : (t l : List ℕ) (at : ℕ) (a : List ℕ) (i : ℕ) → Putting t l at a i → i < length t
-    → Putting t l at (set a (at + i) (get_or t i 0)) (i + 1)
-more t l at a i p h =
-    record {
-      within = omega arith;
-      sized = length-set a (at + i) (get_or t i 0) ∙ p.sized;
-      bytes =
-          ap₂ (λ (b : List ℕ) (n : ℕ). set b (at + n) (get_or t i 0)) p.bytes (sym (length-take-le i t p.within))
-          ∙ sets-append l at (take i t) (get_or t i 0 ∷ [])
-          ∙ ap (sets l at) (sym (take-suc t i 0 h) ∙ ap (λ (n : ℕ). take n t) (sym (add-one i)));
-    }
-
-pub whole : (t l : List ℕ) (at : ℕ) (a : List ℕ) (i : ℕ) → Putting t l at a i → length t ≤ i → Put t l at a (at + i)
-whole t l at a i p h =
-    record { bytes = p.bytes ∙ ap (sets l at) (take_all i t h); ends = omega (arith, p.within) }
 
 -- ---- decimal digits
 -- the digits that the kit finds to be the fewest are those of the definition
@@ -110,6 +85,21 @@ at_most l i r =
     numbered : (b : Bool) → length (cond b (dash ∷ []) (decimal l.refusal)) ≤ 3
     numbered true = omega arith
     numbered false = digits-length 20 2 l.refusal (omega arith)
+
+-- its parts within the longest line
+pub fits : (l : Line) → l.index < 2 ^ 64 → l.refusal < 2 ^ 8 → length (decimal l.index) + length (refusal_text l.refusal) + 7 ≤ longest
+fits l i r = omega (arith, line-length l, at_most l i r)
+
+-- a text copied over what stood at a position is put there
+pub copied : (t l : List ℕ) (at end : ℕ) → end ≡ at + length t → end ≤ length l → Put t l at (put_mid at (end - at) l t) end
+copied t l at end e h =
+    record {
+      bytes =
+          sym (append_assoc (take at l) t (drop (end - at) (drop at l)))
+          ∙ ap (λ (r : List ℕ). (take at l ++ t) ++ r) (drop-drop (end - at) at l ∙ ap (λ (n : ℕ). drop n l) (omega arith))
+          ∙ sym (sets-eq t l at (omega arith));
+      ends = e;
+    }
 
 -- where there is room for the longest line, and where not
 pub room : {t l a : List ℕ} {at end : ℕ} → length t ≤ longest → at + longest ≤ length l → Put t l at a end → Written t l at a end
