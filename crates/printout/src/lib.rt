@@ -1,12 +1,9 @@
 // A line of a play, as text: index, kind, refusal and alarm line.
 #![tactic(auto)]
 
-ghost use Rattle.std.specs.Prelude.{◌≡◌, [], ◌∷◌, ◌++◌, ◌+◌, ◌≤◌, ◌<◌, length};
-ghost use Rattle.arrayvec.specs.ArrayVec.{array_vec_len};
+ghost use Rattle.std.specs.Prelude.{◌≡◌, [], ◌∷◌, ◌++◌, ◌≤◌, ◌<◌, length};
 ghost use Rattle.io.specs.Digits.{hex_digit_ascii};
-ghost use Rattle.printout.specs.Line.{space, longest, decimal, kind_text, refusal_text, alarm_digit, line_text, Written};
-
-use arrayvec::ArrayVec;
+ghost use Rattle.printout.specs.Line.{space, decimal, kind_text, refusal_text, alarm_digit, line_text, Put, Written};
 
 #[derive(Clone, Copy)]
 pub struct Line {
@@ -23,27 +20,23 @@ pub struct Line {
 // No line is longer: 20 digits of the index, 2 of the kind, 3 of the refusal, 1 of the alarm line, spaces, newline.
 pub const LONGEST: usize = 30;
 
-// A line's characters.
-type Text = ArrayVec<u8, LONGEST>;
-
-// Each `put` adds characters.
-fn put(text: &mut Text, characters: &[u8])
-    requires { array_vec_len text.old + length characters.now ≤ longest }
-    ensures items { text.new.items ≡ text.old.items ++ characters.now }
-    ensures len { array_vec_len text.new ≡ array_vec_len text.old + length characters.now }
+// Each `put` writes characters at the front, and gives how many they are.
+fn put(characters: &[u8], out: &mut [u8]) -> usize
+    requires { length characters.now ≤ length out.old }
+    ensures { Put characters.now out.old 0 out.new result }
 {
-    text.try_extend_from_slice(characters).unwrap();
+    out[..characters.len()].copy_from_slice(characters);
+    characters.len()
 }
 
 // A number in decimal.
-fn put_decimal(text: &mut Text, n: u64)
-    requires { array_vec_len text.old + length (decimal n) ≤ longest }
-    ensures items { text.new.items ≡ text.old.items ++ decimal n }
-    ensures len { array_vec_len text.new ≡ array_vec_len text.old + length (decimal n) }
+fn put_decimal(n: u64, out: &mut [u8]) -> usize
+    requires { length (decimal n) ≤ length out.old }
+    ensures { Put (decimal n) out.old 0 out.new result }
 {
     let mut digits = [0; 20];
     let count = io::decimal(n, &mut digits);
-    put(text, &digits[..count]);
+    put(&digits[..count], out)
 }
 
 // A hexadecimal digit.
@@ -55,24 +48,22 @@ fn glyph(d: u8) -> u8
 }
 
 // A kind in two hexadecimal digits, between spaces.
-fn put_kind(text: &mut Text, kind: u8)
-    requires { array_vec_len text.old + 4 ≤ longest }
-    ensures items { text.new.items ≡ text.old.items ++ space ∷ kind_text kind ++ space ∷ [] }
-    ensures len { array_vec_len text.new ≡ array_vec_len text.old + 4 }
+fn put_kind(kind: u8, out: &mut [u8]) -> usize
+    requires { 4 ≤ length out.old }
+    ensures { Put (space ∷ kind_text kind ++ space ∷ []) out.old 0 out.new result }
 {
-    put(text, &[b' ', glyph(kind / 16), glyph(kind % 16), b' ']);
+    put(&[b' ', glyph(kind / 16), glyph(kind % 16), b' '], out)
 }
 
 // A refusal's number, or a dash where there is none.
-fn put_refusal(text: &mut Text, number: u8)
-    requires { array_vec_len text.old + length (refusal_text number) ≤ longest }
-    ensures items { text.new.items ≡ text.old.items ++ refusal_text number }
-    ensures len { array_vec_len text.new ≡ array_vec_len text.old + length (refusal_text number) }
+fn put_refusal(number: u8, out: &mut [u8]) -> usize
+    requires { length (refusal_text number) ≤ length out.old }
+    ensures { Put (refusal_text number) out.old 0 out.new result }
 {
     if number == 0 {
-        put(text, b"-");
+        put(b"-", out)
     } else {
-        put_decimal(text, u64::from(number));
+        put_decimal(u64::from(number), out)
     }
 }
 
@@ -83,21 +74,21 @@ fn alarm_digit(alarm: bool) -> u8
 }
 
 impl Line {
-    // The line's characters.
-    #[tactic(auto, using(crate::proofs::Text::fits))]
-    fn text(self) -> Text
-        ensures { result.items ≡ line_text self }
+    // Puts the line.
+    #[tactic(auto, using(crate::proofs::Text::line_length))]
+    fn put(self, out: &mut [u8]) -> usize
+        requires { length (line_text self) ≤ length out.old }
+        ensures { Put (line_text self) out.old 0 out.new result }
     {
-        let mut text = Text::new();
-        put_decimal(&mut text, self.index);
-        put_kind(&mut text, self.kind);
-        put_refusal(&mut text, self.refusal);
-        put(&mut text, &[b' ', alarm_digit(self.alarm), b'\n']);
-        text
+        let mut end = put_decimal(self.index, out);
+        end += put_kind(self.kind, &mut out[end..]);
+        end += put_refusal(self.refusal, &mut out[end..]);
+        end + put(&[b' ', alarm_digit(self.alarm), b'\n'], &mut out[end..])
     }
 
     // Writes the line from a position on, and gives the position after it. Where there is no room for the longest line nothing
     // is written, and the position is the same.
+    #[tactic(auto, using(crate::proofs::Text::at_most))]
     pub fn write(self, out: &mut [u8], at: usize) -> usize
         ensures { Written (line_text self) out.old at out.new result }
     {
@@ -107,9 +98,6 @@ impl Line {
         if out.len() - LONGEST < at {
             return at;
         }
-        let text = self.text();
-        let end = at + text.len();
-        out[at..end].copy_from_slice(text.as_slice());
-        end
+        at + self.put(&mut out[at..])
     }
 }

@@ -1,8 +1,6 @@
--- There is room, so all are added.
+-- The characters are copied over the front.
+use Rattle.printout.proofs.Text.{copied}
 use Rattle.printout.proofs.put.Goals as goal
 
-pub returns-clause-items : goal.returns-clause-items
-returns-clause-items c = rw c.unwrap.ensures at c.try_extend_from_slice.ensures.ok
-
-pub returns-clause-len : goal.returns-clause-len
-returns-clause-len c = rw c.unwrap.ensures at c.try_extend_from_slice.ensures.len
+pub returns : goal.returns
+returns c = rw c.copy_from_slice.ensures.after (copied _ _ c.requires)

@@ -7,10 +7,6 @@ pub put-requires : goal.put-requires
 put-requires c =
     rw (decimal_is _ _ _ (search rules) c.decimal-count.ensures.len c.decimal-count.ensures.digits) c.requires
 
-pub returns-clause-items : goal.returns-clause-items
-returns-clause-items c =
-    rw (decimal_is _ _ _ (search rules) c.decimal-count.ensures.len c.decimal-count.ensures.digits) at c.put.ensures.items
-
-pub returns-clause-len : goal.returns-clause-len
-returns-clause-len c =
-    rw (decimal_is _ _ _ (search rules) c.decimal-count.ensures.len c.decimal-count.ensures.digits) at c.put.ensures.len
+pub returns : goal.returns
+returns c =
+    rw (decimal_is _ _ _ (search rules) c.decimal-count.ensures.len c.decimal-count.ensures.digits) at c.put.ensures
