@@ -1,6 +1,6 @@
 -- A turn of the program: what a read brought is played. Document 02, P1.
 -- Assumes nothing.
-use Rattle.std.specs.Prelude.{ℕ, ◌+◌, ◌-◌, min, Bool, true, false, not, ◌&&◌, List, ◌≡◌, eqb, ℤ, pos, negsuc, length, take, drop}
+use Rattle.std.specs.Prelude.{ℕ, ◌+◌, ◌-◌, min, Bool, not, ◌&&◌, List, ◌≡◌, eqb, Option, Some, None, length, take, drop}
 use Rattle.std.proofs.lemmas.List.Edits.{sets}
 use Rattle.io.specs.Counts.{IsPrefixLen}
 use Rattle.player.specs.Player.{transcript, text_of}
@@ -17,13 +17,11 @@ pub record Played (last : Bool) (p : Player) (block input output input' output' 
   pub written : r.written ≡ length (text_of (transcript last p block).lines)
   pub fits : IsPrefixLen r.written output'
   pub more : r.more ≡ (not last && not (transcript last p block).player.over)
-  pub failed : r.failed ≡ false
 
--- by the answer of a read: negative, it failed, and nothing is played; else so many bytes came behind those held, no more than
--- there is room for, and none says that no more follow
-pub data Turned (p : Player) (held : ℕ) (input output input' output' : List ℕ) : ℤ → Progress → Type 0 where
-  fails : (n : ℕ) → input' ≡ input → output' ≡ output
-      → Turned p held input output input' output' (negsuc n) (record { player = p; written = 0; held = held; more = false; failed = true })
+-- by the answer of a read: nothing where it failed, and nothing is played; else so many bytes came behind those held, no more
+-- than there is room for, and none says that no more follow
+pub data Turned (p : Player) (held : ℕ) (input output input' output' : List ℕ) : Option ℕ → Option Progress → Type 0 where
+  fails : input' ≡ input → output' ≡ output → Turned p held input output input' output' None None
   comes : (n : ℕ) {r : Progress}
       → Played (eqb (min n (length input - held)) 0) p (take (held + min n (length input - held)) input) input output input' output' r
-      → Turned p held input output input' output' (pos n) r
+      → Turned p held input output input' output' (Some n) (Some r)

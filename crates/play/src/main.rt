@@ -1,8 +1,7 @@
 // Plays a bench recording from standard input on the blank module, and prints a line for each record.
 #![tactic(auto)]
 
-ghost use Rattle.std.specs.Prelude.{◌≡◌, ◌/◌, ◌≤◌, length, take};
-ghost use Rattle.printout.specs.Line.{longest};
+ghost use Rattle.std.specs.Prelude.{◌≡◌, ◌≤◌, length, take};
 ghost use Rattle.play.specs.Turn.{Played, Turned};
 
 use player::{Player, keep};
@@ -15,65 +14,61 @@ const BLOCK: usize = 8192;
 const ROOM: usize = BLOCK * LONGEST;
 
 // After a turn: how many characters of lines are at the front of the output, how many bytes of a record that is not whole yet
-// at the front of the input, whether more can follow, and whether the input failed.
+// at the front of the input, and whether more can follow.
 #[derive(Clone, Copy)]
 struct Progress {
     player: Player,
     written: usize,
     held: usize,
     more: bool,
-    failed: bool,
 }
 
 // Plays the bytes of the input before `end`.
-fn played(player: Player, input: &mut [u8], end: usize, last: bool, output: &mut [u8]) -> Progress
-    requires end_in_bounds { end ≤ length input.old }
-    requires room { length input.old ≤ length output.old / longest }
+fn played(
+    player: Player,
+    input: &mut [u8; BLOCK],
+    end: usize,
+    last: bool,
+    output: &mut [u8; ROOM],
+) -> Progress
+    requires { end ≤ length input.old }
     ensures { Played last player (take end input.old) input.old output.old input.new output.new result }
 {
     let block = player.play(&input[..end], last, output);
-    let next = block.player;
-    let written = block.written;
-    let used = block.used;
-    let held = keep(input, used, end);
+    let held = keep(input, block.used, end);
     Progress {
-        player: next,
-        written: written,
-        held: held,
-        more: !last & !next.over,
-        failed: false,
+        player: block.player,
+        written: block.written,
+        held,
+        more: !last & !block.player.over,
     }
 }
 
-// By the answer of a read behind what is held, plays that and what came. No bytes came: none follow.
-fn turn(player: Player, held: usize, got: isize, input: &mut [u8], output: &mut [u8]) -> Progress
-    requires held_in_bounds { held ≤ length input.old }
-    requires room { length input.old ≤ length output.old / longest }
+// By the answer of a read behind what is held, plays that and what came; nothing where the read failed. No bytes came: none
+// follow.
+fn turn(
+    player: Player,
+    held: usize,
+    got: Option<usize>,
+    input: &mut [u8; BLOCK],
+    output: &mut [u8; ROOM],
+) -> Option<Progress>
+    requires { held ≤ length input.old }
     ensures { Turned player held input.old output.old input.new output.new got result }
 {
-    let failed = got < 0;
-    if failed {
-        return Progress {
-            player: player,
-            written: 0,
-            held: held,
-            more: false,
-            failed: true,
-        };
-    }
-    let count = io::count(got, &input[held..]);
-    played(player, input, held + count, count == 0, output)
+    let Some(came) = got else {
+        return None;
+    };
+    let count = came.min(BLOCK - held);
+    Some(played(player, input, held + count, count == 0, output))
 }
 
-// A read behind what is held, which stays: how many bytes came, or -1 where it failed.
-fn read_behind(mut from: Stdin, held: usize, input: &mut [u8]) -> isize
+// A read behind what is held, which stays: how many bytes came, if it did not fail.
+fn read_behind(mut from: Stdin, held: usize, input: &mut [u8; BLOCK]) -> Option<usize>
     requires { held ≤ length input.old }
     ensures { take held input.new ≡ take held input.old }
 {
-    match from.read(&mut input[held..]) {
-        Ok(count) => count as isize,
-        Err(_) => -1,
-    }
+    from.read(&mut input[held..]).ok()
 }
 
 // Where standard error fails too, nobody is told.
@@ -87,13 +82,12 @@ fn main(rt: HostRuntime) {
     let mut output = [0; ROOM];
     let mut player = Player::blank();
     let mut held = 0;
-    let mut turns = u64::MAX;
-    while turns > 0 {
+    for _ in 0..u64::MAX {
         let got = read_behind(rt.stdin(), held, &mut input);
-        let after = turn(player, held, got, &mut input, &mut output);
-        if after.failed {
+        let Some(after) = turn(player, held, got, &mut input, &mut output) else {
             tell(rt.stderr(), b"play: standard input cannot be read\n");
-        }
+            return;
+        };
         let printed = rt.write_all(&output[..after.written]).is_ok();
         if !printed {
             tell(rt.stderr(), b"play: standard output cannot be written\n");
@@ -103,6 +97,5 @@ fn main(rt: HostRuntime) {
         }
         player = after.player;
         held = after.held;
-        turns -= 1;
     }
 }

@@ -15,7 +15,7 @@ use Rattle.calls.specs.declared.Call.{Call}
 use Rattle.creation.specs.Creation.{make}
 use Rattle.printout.specs.declared.Line.{Line}
 use Rattle.printout.specs.Line.{decimal, line_text}
-use Rattle.recording.specs.Recording.{call_of, item_at}
+use Rattle.recording.specs.Recording.{call_of, body_at, item_at}
 use Rattle.player.specs.Player.{started, step_at, playing}
 use Rattle.player.specs.declared.Player.{Player}
 use Rattle.guarantees.specs.History.{Model, fresh, step_model, run_model, line_by_history}
@@ -96,5 +96,5 @@ unfolding make_refusal make zeros
 blank-made = record { not_refused = refl; made = refl }
 
 pub example : Example
-unfolding flatten playing step_at item_at call_of decimal line_text make bit any_bit share zeros step calls.power_on calls.power_cut calls.tick
+unfolding flatten playing step_at item_at body_at call_of decimal line_text make bit any_bit share zeros step calls.power_on calls.power_cut calls.tick
 example = refl

@@ -7,6 +7,7 @@ use mathlib.Core.List.{List, [], ◌∷◌, ◌++◌, map}
 use mathlib.Core.Path.{◌≡◌, refl, sym, ap, ap₂, ◌∙◌}
 use lib.ListN.{length, drop}
 use lib.Seq.{drop-drop, drop-append_seam}
+use Rattle.std.specs.Prelude.{Option}
 use Rattle.answers.specs.Answers.{Said}
 use Rattle.xenpak.specs.declared.Module.{Module}
 use Rattle.reads.specs.Reads.{line_of}
@@ -15,7 +16,6 @@ use Rattle.calls.specs.declared.Call.{Call}
 use Rattle.printout.specs.declared.Line.{Line}
 use Rattle.recording.specs.Recording.{item_at}
 use Rattle.recording.specs.declared.Item.{Item}
-use Rattle.recording.specs.declared.Item.TheVariants as item
 use Rattle.player.specs.Player.{player, still, step_by, step_at, Transcript, stopped, before, go_on, transcript}
 use Rattle.player.specs.declared.Player.{Player}
 use Rattle.player.specs.declared.Step.{Step}
@@ -23,7 +23,7 @@ use Rattle.player.proofs.Playing.{from, from_is, enough}
 use Rattle.guarantees.specs.Guarantees.{answers, along}
 use Rattle.playback.specs.Format.{Records, none, one_more, Ending, complete, unknown, short, Ends}
 use Rattle.playback.specs.Playback.{kind_of, count_from}
-use Rattle.playback.proofs.Decoding.{record_item, end_item, end-item}
+use Rattle.playback.proofs.Decoding.{item_call, record_item, end_item, end-item}
 
 -- ---- whole records
 -- the player after a call, and the call's line; after calls, and their lines
@@ -52,11 +52,11 @@ module _ (final : Bool) (p : Player) (block : List ℕ) (at : ℕ) where
   onward s = go_on s.shown (stopped p at) (from final s.player block)
 
   -- while the play goes on, the item says what comes; then nothing does
-  by_item : (i : Item) → p.over ≡ false → item_at block at ≡ i → from final p block at ≡ onward (step_by final p (length block) i)
+  by_item : (i : Option Item) → p.over ≡ false → item_at block at ≡ i → from final p block at ≡ onward (step_by final p (length block) i)
   unfolding step_at
   by_item i o e =
       from_is final p block at
-      ∙ ap onward (ap₂ (λ (b : Bool) (i : Item). cond b (still p) (step_by final p (length block) i)) o e)
+      ∙ ap onward (ap₂ (λ (b : Bool) (i : Option Item). cond b (still p) (step_by final p (length block) i)) o e)
 
   pub when_over : p.over ≡ true → from final p block at ≡ stopped p at
   unfolding step_at
@@ -79,7 +79,7 @@ whole_records (one_more {first} {bytes} {c = c} {cs} r rs) final p block at o d 
     record {
       next = rest.next;
       left = rest.left;
-      is = by_item final p block at (item.Call (kind_of c) c (at + length first)) o (record_item r block at bytes d) ∙ ap (before (call_line p c ∷ [])) rest.is;
+      is = by_item final p block at (item_call (kind_of c) c (at + length first)) o (record_item r block at bytes d) ∙ ap (before (call_line p c ∷ [])) rest.is;
     }
 
 -- ---- what ends them

@@ -9,27 +9,44 @@ use lib.Dec.{ltb}
 use lib.ListN.{length, get_or, drop, length-append, length-drop}
 use lib.Seq.{get_or-drop, drop-drop}
 use borrow.Author.Tests.{le-leb, lt-leb, lt-ltb, le-ltb}
+use Rattle.std.specs.Prelude.{Option, Some, None, Ok, Err}
 use Rattle.words.specs.Words.{bit}
 use Rattle.calls.specs.declared.Call.{Call}
-use Rattle.recording.specs.Recording.{known, body_length, call_of, item_at}
+use Rattle.recording.specs.Recording.{known, body_length, call_of, body_at, item_at}
+use Rattle.recording.specs.declared.Flaw.TheVariants.{UnknownKind, CutShort}
 use Rattle.recording.specs.declared.Item.{Item}
-use Rattle.recording.specs.declared.Item.TheVariants as item
 use Rattle.playback.specs.Format.{number, Record, power_on, clean_cut, torn_cut, reset, frame, tick, sample, lines, Ending, complete, unknown, short, Ends, at_end, at_unknown, in_body}
 use Rattle.playback.specs.Playback.{kind_of}
 
+-- ---- what an item may be
+-- a record, and the position after it; a kind that is none of these; a body cut short
+abbrev pub item_call : (kind : ℕ) → Call → (next : ℕ) → Option Item
+item_call kind c next = Some (record { kind = kind; body = Ok (record { call = c; next = next }) })
+
+abbrev pub item_unknown : (kind : ℕ) → Option Item
+item_unknown kind = Some (record { kind = kind; body = Err UnknownKind })
+
+abbrev pub item_short : (kind : ℕ) → Option Item
+item_short kind = Some (record { kind = kind; body = Err CutShort })
+
 -- ---- by the bytes from a position on
-abbrev pub item_of : ℕ → ℕ → List ℕ → Item
+abbrev pub item_of : ℕ → ℕ → List ℕ → Option Item
 item_of at kind body =
-    cond (not (known kind)) (item.Unknown kind)
-    (cond (ltb (length body) (body_length kind)) (item.Short kind) (item.Call kind (call_of kind body) (at + 1 + body_length kind)))
+    Some
+    (record {
+      kind = kind;
+      body = cond (not (known kind)) (Err UnknownKind)
+          (cond (ltb (length body) (body_length kind)) (Err CutShort)
+          (Ok (record { call = call_of kind body; next = at + 1 + body_length kind })));
+    })
 
 module _ (bytes : List ℕ) (at : ℕ) where
-  pub no_item : drop at bytes ≡ [] → item_at bytes at ≡ item.End
+  pub no_item : drop at bytes ≡ [] → item_at bytes at ≡ None
   unfolding item_at
   no_item e = rw (le-leb (length bytes) at (omega (arith, ap length e, length-drop at bytes)))
 
   pub some_item : (kind : ℕ) (body : List ℕ) → drop at bytes ≡ kind ∷ body → item_at bytes at ≡ item_of at kind body
-  unfolding item_at
+  unfolding item_at body_at
   some_item kind body e =
       let left : length bytes - at ≡ suc (length body) = sym (length-drop at bytes) ∙ ap length e in
       let here : get_or bytes at 0 ≡ kind = ap (λ (n : ℕ). get_or bytes n 0) (omega arith) ∙ sym (get_or-drop at bytes 0 0) ∙ ap (λ (l : List ℕ). get_or l 0 0) e in
@@ -41,7 +58,7 @@ module _ (bytes : List ℕ) (at : ℕ) where
 -- a known kind with its whole body
 whole_item : (bytes : List ℕ) (at kind : ℕ) (body : List ℕ) {c : Call} {next : ℕ} → known kind ≡ true
     → body_length kind ≤ length body → call_of kind body ≡ c → at + 1 + body_length kind ≡ next → drop at bytes ≡ kind ∷ body
-    → item_at bytes at ≡ item.Call kind c next
+    → item_at bytes at ≡ item_call kind c next
 whole_item bytes at kind body k h e n d =
     some_item bytes at kind body d ∙ rw (k, le-ltb (length body) (body_length kind) h, e, n)
 
@@ -52,7 +69,7 @@ four : (a b c d : ℕ) → (a * 256 + b) * 0x10000 + (c * 256 + d) ≡ number (a
 four a b c d = omega arith
 
 pub record_item : {r : List ℕ} {c : Call} → Record r c → (bytes : List ℕ) (at : ℕ) (rest : List ℕ) → drop at bytes ≡ r ++ rest
-    → item_at bytes at ≡ item.Call (kind_of c) c (at + length r)
+    → item_at bytes at ≡ item_call (kind_of c) c (at + length r)
 unfolding call_of bit
 record_item power_on bytes at rest d = whole_item bytes at 0x01 rest refl (omega arith) refl (omega arith) d
 record_item clean_cut bytes at rest d = whole_item bytes at 0x02 rest refl (omega arith) refl (omega arith) d
@@ -69,10 +86,10 @@ record_item (lines a b c d e) bytes at rest p =
 
 -- ---- an end
 -- what it is to the decoder
-abbrev pub end_item : Ending → Item
-end_item complete = item.End
-end_item (unknown kind) = item.Unknown kind
-end_item (short kind) = item.Short kind
+abbrev pub end_item : Ending → Option Item
+end_item complete = None
+end_item (unknown kind) = item_unknown kind
+end_item (short kind) = item_short kind
 
 -- a record is as long as its kind says
 shape : {r : List ℕ} {c : Call} → Record r c → (known (get_or r 0 0) ≡ true) × (length r ≡ 1 + body_length (get_or r 0 0))

@@ -10,6 +10,7 @@ use lib.IntN.{ℤ, pos, negsuc}
 use lib.ListN.{length, get_or, take, drop, replicate, length-append, length-drop, length-replicate, take-append-drop}
 use lib.Seq.{drop-append_seam, length-take-le}
 use borrow.Author.Tests.{lt-ltb, le-ltb, ltb-true, ltb-false}
+use Rattle.std.specs.Prelude.{Option, Some, None, Result, Ok, Err}
 use Rattle.store.specs.declared.Cut.TheVariants.{Clean, Torn}
 use Rattle.calls.specs.declared.Call.{Call}
 use Rattle.calls.specs.declared.Call.TheVariants.{PowerOn, Cut, ResetPin, Frame, Tick, Lines, Sample}
@@ -17,36 +18,58 @@ use Rattle.guarantees.specs.Reference.{bit, signed}
 use Rattle.guarantees.specs.Behaviour.{bits_of}
 use Rattle.recording.specs.Recording.{known, body_length, item_at}
 use Rattle.recording.proofs.KnownKinds.{bounds}
+use Rattle.recording.specs.declared.Body.{Body}
+use Rattle.recording.specs.declared.Flaw.{Flaw}
+use Rattle.recording.specs.declared.Flaw.TheVariants.{UnknownKind, CutShort}
 use Rattle.recording.specs.declared.Item.{Item}
-use Rattle.recording.specs.declared.Item.TheVariants as item
 use Rattle.playback.specs.Format.{Record, power_on, clean_cut, torn_cut, reset, frame, tick, sample, lines, Records, none, one_more, Ending, complete, unknown, short, Ends, at_end, at_unknown, in_body, Recording, number, word, level_bits, encode, encoded, Signed16, Fits, Byte, All}
 use Rattle.playback.specs.Playback.{kind_of, EveryRecording, EveryCall}
-use Rattle.playback.proofs.Decoding.{record_item, end_item, end-item}
+use Rattle.playback.proofs.Decoding.{item_call, record_item, end_item, end-item}
 
 -- ---- in one way only
 -- an ending is told by what it is to the decoder, which is no call
-abbrev ending_of : Item → Ending
-ending_of (item.Call kind c next) = complete
-ending_of (item.Unknown kind) = unknown kind
-ending_of (item.Short kind) = short kind
-ending_of item.End = complete
+abbrev ending_by : (kind : ℕ) → Result Body Flaw → Ending
+ending_by kind (Ok b) = complete
+ending_by kind (Err UnknownKind) = unknown kind
+ending_by kind (Err CutShort) = short kind
+
+abbrev ending_of : Option Item → Ending
+ending_of None = complete
+ending_of (Some i) = ending_by i.kind i.body
+
+-- the call of an item, and one more than the position after it, 0 where it has none
+abbrev call_by : Result Body Flaw → List Call
+call_by (Ok b) = b.call ∷ []
+call_by (Err flaw) = []
+
+abbrev next_by : Result Body Flaw → ℕ
+next_by (Ok b) = b.next + 1
+next_by (Err flaw) = 0
+
+abbrev calls_of : Option Item → List Call
+calls_of None = []
+calls_of (Some i) = call_by i.body
+
+abbrev next_of : Option Item → ℕ
+next_of None = 0
+next_of (Some i) = next_by i.body
 
 end_told : (e : Ending) → ending_of (end_item e) ≡ e
 end_told complete = refl
 end_told (unknown kind) = refl
 end_told (short kind) = refl
 
-no_call : {k n : ℕ} {c : Call} (e : Ending) → item.Call k c n ≡ end_item e → ⊥
-no_call complete p = let z : ◌≡◌ {A = ℕ} 0 1 = cc in omega arith
-no_call (unknown kind) p = let z : ◌≡◌ {A = ℕ} 0 1 = cc in omega arith
-no_call (short kind) p = let z : ◌≡◌ {A = ℕ} 0 1 = cc in omega arith
+no_call : {k n : ℕ} {c : Call} (e : Ending) → item_call k c n ≡ end_item e → ⊥
+no_call complete p = absurd (omega (arith, ap next_of p))
+no_call (unknown kind) p = absurd (omega (arith, ap next_of p))
+no_call (short kind) p = absurd (omega (arith, ap next_of p))
 
 -- two records at the start of the same bytes are the same
 same_first : {r s x y : List ℕ} {c d : Call} → Record r c → Record s d → r ++ x ≡ s ++ y → (c ≡ d) × (x ≡ y)
 same_first {r} {s} {x} {y} {c} {d} p q e =
-    let i : item.Call (kind_of c) c (0 + length r) ≡ item.Call (kind_of d) d (0 + length s) = sym (record_item p (r ++ x) 0 x refl) ∙ record_item q (r ++ x) 0 y e in
-    let n : 0 + length r ≡ 0 + length s = cc in
-    let m : length r ≡ length s = omega arith in
+    let i : item_call (kind_of c) c (0 + length r) ≡ item_call (kind_of d) d (0 + length s) = sym (record_item p (r ++ x) 0 x refl) ∙ record_item q (r ++ x) 0 y e in
+    let m : length r ≡ length s = omega (arith, ap next_of i) in
+    let same : c ∷ [] ≡ d ∷ [] = ap calls_of i in
     (cc, sym (drop-append_seam r x) ∙ ap₂ drop m e ∙ drop-append_seam s y)
 
 pub only : {bytes more rest left : List ℕ} {cs ds : List Call} {e f : Ending} → Records bytes cs rest → Ends rest e
@@ -71,11 +94,11 @@ tabulated_is [] = refl
 tabulated_is (x ∷ l) = ap (◌∷◌ x) (tabulated_is l)
 
 -- a known kind and as many bytes as it asks for are a record
-record Some (bytes : List ℕ) : Type 0 where
+record Whole (bytes : List ℕ) : Type 0 where
   call : Call
   is : Record bytes call
 
-record_of : (kind : ℕ) → known kind ≡ true → (f : ℕ → ℕ) → Some (kind ∷ tabulated (body_length kind) f)
+record_of : (kind : ℕ) → known kind ≡ true → (f : ℕ → ℕ) → Whole (kind ∷ tabulated (body_length kind) f)
 record_of (suc zero) e f = record { call = _; is = power_on }
 record_of (suc (suc zero)) e f = record { call = _; is = clean_cut }
 record_of (suc (suc (suc zero))) e f = record { call = _; is = torn_cut (f 0) }
@@ -88,9 +111,9 @@ record_of zero e f = absurd (let z : ◌≡◌ {A = ℕ} 0 1 = cc in omega arith
 record_of (suc (suc (suc (suc (suc (suc (suc (suc (suc k))))))))) e f =
     let b = bounds (suc (suc (suc (suc (suc (suc (suc (suc (suc k))))))))) e in absurd (omega arith)
 
-whole_record : (kind : ℕ) (body : List ℕ) → known kind ≡ true → length body ≡ body_length kind → Some (kind ∷ body)
+whole_record : (kind : ℕ) (body : List ℕ) → known kind ≡ true → length body ≡ body_length kind → Whole (kind ∷ body)
 whole_record kind body e n =
-    subst (λ (l : List ℕ). Some (kind ∷ l)) (ap (λ (k : ℕ). tabulated k (λ i. get_or body i 0)) (sym n) ∙ tabulated_is body)
+    subst (λ (l : List ℕ). Whole (kind ∷ l)) (ap (λ (k : ℕ). tabulated k (λ i. get_or body i 0)) (sym n) ∙ tabulated_is body)
     (record_of kind e (λ i. get_or body i 0))
 
 record Read (bytes : List ℕ) : Type 0 where

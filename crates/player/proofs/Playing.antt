@@ -1,18 +1,19 @@
 -- Playing records one after the other: a step goes on, a block ends, and the loop that plays it.
 -- Assumes nothing.
-use Rattle.std.proofs.Common.{◌≡◌, ℕ, zero, suc, ◌+◌, ◌-◌, ◌*◌, ◌/◌, ◌<◌, ◌≤◌, Bool, true, false, cond, not, eqb, ltb, leb, List, [], ◌∷◌, ◌++◌, length, get_or, drop, sym, refl, ap, ◌∙◌, append_assoc, append-nil, arith, ltb-false, ltb-true, le-leb, leb-false, leb-true}
+use Rattle.std.proofs.Common.{◌≡◌, ℕ, zero, suc, ◌+◌, ◌-◌, ◌*◌, ◌/◌, ◌<◌, ◌≤◌, Bool, true, false, cond, not, eqb, ltb, leb, List, [], ◌∷◌, ◌++◌, Option, Some, None, Result, Ok, Err, length, get_or, drop, sym, refl, ap, ◌∙◌, append_assoc, append-nil, arith, ltb-false, ltb-true, le-leb, leb-false, leb-true}
 use lib.Seq.{length-sets}
 use Rattle.io.proofs.Counting.{prefix_len_of_le}
 use Rattle.printout.specs.Line.{line_text, longest, Put, Written}
 use Rattle.printout.specs.declared.Line.{Line}
 use Rattle.printout.proofs.Text.{then, with_room}
-use Rattle.recording.specs.Recording.{known, body_length, call_of, item_at}
+use Rattle.recording.specs.Recording.{known, body_length, call_of, body_at, item_at}
+use Rattle.recording.specs.declared.Body.{Body}
+use Rattle.recording.specs.declared.Flaw.{Flaw}
+use Rattle.recording.specs.declared.Flaw.TheVariants.{UnknownKind, CutShort}
 use Rattle.recording.specs.declared.Item.{Item}
-use Rattle.recording.specs.declared.Item.TheVariants as item
-use Rattle.player.specs.Player.{step_by, step_at, still, Transcript, stopped, before, go_on, playing, text_of, Plays}
+use Rattle.player.specs.Player.{step_of, step_by, step_at, still, Transcript, stopped, before, go_on, playing, text_of, Plays}
 use Rattle.player.specs.declared.Player.{Player}
 use Rattle.player.specs.declared.Shown.{Shown}
-use Rattle.player.specs.declared.Shown.TheVariants as shown
 use Rattle.player.specs.declared.Step.{Step}
 
 -- ---- one step
@@ -26,11 +27,14 @@ body-length kind = of (eqb kind 0x03) (omega arith) (of (eqb kind 0x05) (omega a
 
 -- what an item says of the position that it was found at: bytes are left or none, a record ends within them, and of one that
 -- does not at most 8 are there
-abbrev pub Within : (at size : ℕ) → Item → Type 0
-Within at size (item.Call kind c next) = (at < next) × (next ≤ size)
-Within at size (item.Unknown kind) = at < size
-Within at size (item.Short kind) = (at < size) × (size ≤ at + 8)
-Within at size item.End = size ≤ at
+abbrev pub WithinBody : (at size : ℕ) → Result Body Flaw → Type 0
+WithinBody at size (Ok b) = (at < b.next) × (b.next ≤ size)
+WithinBody at size (Err UnknownKind) = at < size
+WithinBody at size (Err CutShort) = (at < size) × (size ≤ at + 8)
+
+abbrev pub Within : (at size : ℕ) → Option Item → Type 0
+Within at size None = size ≤ at
+Within at size (Some i) = WithinBody at size i.body
 
 module _ (bytes : List ℕ) (at : ℕ) where
   abbrev kind : ℕ
@@ -40,14 +44,18 @@ module _ (bytes : List ℕ) (at : ℕ) where
   short = ltb (length bytes - (at + 1)) (body_length kind)
 
   pub item-within : Within at (length bytes) (item_at bytes at)
-  unfolding item_at
+  unfolding item_at body_at
   item-within = go (leb (length bytes) at) refl (known kind) short refl
     where
       go : (a : Bool) → leb (length bytes) at ≡ a → (b c : Bool) → short ≡ c
           → Within at (length bytes)
-          (cond a item.End
-          (cond (not b) (item.Unknown kind)
-          (cond c (item.Short kind) (item.Call kind (call_of kind (drop (at + 1) bytes)) (at + 1 + body_length kind)))))
+          (cond a None
+          (Some
+          (record {
+            kind = kind;
+            body = cond (not b) (Err UnknownKind)
+                (cond c (Err CutShort) (Ok (record { call = call_of kind (drop (at + 1) bytes); next = at + 1 + body_length kind })));
+          })))
       go true p b c q = leb-true (length bytes) at p
       go false p false c q = leb-false (length bytes) at p
       go false p true true q =
@@ -56,28 +64,32 @@ module _ (bytes : List ℕ) (at : ℕ) where
           (omega arith, omega (arith, leb-false (length bytes) at p, ltb-false (length bytes - (at + 1)) (body_length kind) q))
 
 -- a step with a line goes on within the bytes; one without leaves the player, and if the play goes on at most 8 bytes are left
-abbrev pub Onward : Player → (at size : ℕ) → Player → Shown → Type 0
-Onward p at size q (shown.Line l next) = (at < next) × (next ≤ size)
-Onward p at size q shown.Nothing = (q ≡ p) × (p.over ≡ false → size ≤ at + 8)
+abbrev pub Onward : Player → (at size : ℕ) → Player → Option Shown → Type 0
+Onward p at size q (Some s) = (at < s.next) × (s.next ≤ size)
+Onward p at size q None = (q ≡ p) × (p.over ≡ false → size ≤ at + 8)
 
 pub onward : (last : Bool) (p : Player) (bytes : List ℕ) (at : ℕ)
     → Onward p at (length bytes) (step_at last p bytes at).player (step_at last p bytes at).shown
 unfolding step_at
 onward last p bytes at = go p.over refl (item_at bytes at) (item-within bytes at)
   where
-    cut : (b : Bool) (kind : ℕ) → Within at (length bytes) (item.Short kind)
-        → Onward p at (length bytes) (step_by b p (length bytes) (item.Short kind)).player (step_by b p (length bytes) (item.Short kind)).shown
+    cut : (b : Bool) (kind : ℕ) → WithinBody at (length bytes) (Err CutShort)
+        → Onward p at (length bytes) (step_of b p kind (length bytes) (Err CutShort)).player (step_of b p kind (length bytes) (Err CutShort)).shown
     cut true kind w = (w.0, omega arith)
     cut false kind w = (refl, λ f. w.1)
 
-    by : (i : Item) → Within at (length bytes) i
-        → Onward p at (length bytes) (step_by last p (length bytes) i).player (step_by last p (length bytes) i).shown
-    by (item.Call kind c next) w = w
-    by (item.Unknown kind) w = (w, omega arith)
-    by (item.Short kind) w = cut last kind w
-    by item.End w = (refl, λ f. omega arith)
+    of : (kind : ℕ) (b : Result Body Flaw) → WithinBody at (length bytes) b
+        → Onward p at (length bytes) (step_of last p kind (length bytes) b).player (step_of last p kind (length bytes) b).shown
+    of kind (Ok b) w = w
+    of kind (Err UnknownKind) w = (w, omega arith)
+    of kind (Err CutShort) w = cut last kind w
 
-    go : (b : Bool) → p.over ≡ b → (i : Item) → Within at (length bytes) i
+    by : (i : Option Item) → Within at (length bytes) i
+        → Onward p at (length bytes) (step_by last p (length bytes) i).player (step_by last p (length bytes) i).shown
+    by None w = (refl, λ f. omega arith)
+    by (Some i) w = of i.kind i.body w
+
+    go : (b : Bool) → p.over ≡ b → (i : Option Item) → Within at (length bytes) i
         → Onward p at (length bytes) (cond b (still p) (step_by last p (length bytes) i)).player (cond b (still p) (step_by last p (length bytes) i)).shown
     go true e i w = (refl, λ f. let z : true ≡ false = sym e ∙ f in let n : ◌≡◌ {A = ℕ} 0 1 = cc in absurd (omega arith))
     go false e i w = by i w
@@ -102,13 +114,13 @@ enough (suc n) zero last p bytes at h k = rw (at_the_end last p bytes at (omega 
 enough (suc n) (suc m) last p bytes at h k =
     go (step_at last p bytes at).shown (onward last p bytes at) (λ next. enough n m last (step_at last p bytes at).player bytes next)
   where
-    go : (s : Shown) → Onward p at (length bytes) (step_at last p bytes at).player s
+    go : (s : Option Shown) → Onward p at (length bytes) (step_at last p bytes at).player s
         → ((next : ℕ) → length bytes ≤ next + n → length bytes ≤ next + m
         → playing n last (step_at last p bytes at).player bytes next ≡ playing m last (step_at last p bytes at).player bytes next)
         → go_on s (stopped p at) (playing n last (step_at last p bytes at).player bytes)
         ≡ go_on s (stopped p at) (playing m last (step_at last p bytes at).player bytes)
-    go (shown.Line l next) w rest = ap (before (l ∷ [])) (rest next (omega arith) (omega arith))
-    go shown.Nothing w rest = refl
+    go (Some s) w rest = ap (before (s.line ∷ [])) (rest s.next (omega arith) (omega arith))
+    go None w rest = refl
 
 -- if the play goes on, at most 8 bytes are left
 pub left_over : (n : ℕ) (last : Bool) (p : Player) (bytes : List ℕ) (at : ℕ) → length bytes ≤ at + n
@@ -118,13 +130,13 @@ left_over zero last p bytes at h f = omega arith
 left_over (suc n) last p bytes at h f =
     go (step_at last p bytes at).shown (onward last p bytes at) (λ next. left_over n last (step_at last p bytes at).player bytes next) f
   where
-    go : (s : Shown) → Onward p at (length bytes) (step_at last p bytes at).player s
+    go : (s : Option Shown) → Onward p at (length bytes) (step_at last p bytes at).player s
         → ((next : ℕ) → length bytes ≤ next + n → (playing n last (step_at last p bytes at).player bytes next).player.over ≡ false
         → length bytes ≤ (playing n last (step_at last p bytes at).player bytes next).used + 8)
         → (go_on s (stopped p at) (playing n last (step_at last p bytes at).player bytes)).player.over ≡ false
         → length bytes ≤ (go_on s (stopped p at) (playing n last (step_at last p bytes at).player bytes)).used + 8
-    go (shown.Line l next) w rest f = rest next (omega arith) f
-    go shown.Nothing w rest f = w.1 f
+    go (Some s) w rest f = rest s.next (omega arith) f
+    go None w rest f = w.1 f
 
 -- all records from a position on
 abbrev pub from : (last : Bool) → Player → List ℕ → (at : ℕ) → Transcript
@@ -136,12 +148,12 @@ unfolding playing
 from_is last p bytes at =
     enough (length bytes - at) (suc (length bytes)) last p bytes at (omega arith) (omega arith) ∙ go (step_at last p bytes at).shown
   where
-    go : (s : Shown)
+    go : (s : Option Shown)
         → go_on s (stopped p at) (playing (length bytes) last (step_at last p bytes at).player bytes)
         ≡ go_on s (stopped p at) (from last (step_at last p bytes at).player bytes)
-    go (shown.Line l next) =
-        ap (before (l ∷ [])) (enough (length bytes) (length bytes - next) last (step_at last p bytes at).player bytes next (omega arith) (omega arith))
-    go shown.Nothing = refl
+    go (Some s) =
+        ap (before (s.line ∷ [])) (enough (length bytes) (length bytes - s.next) last (step_at last p bytes at).player bytes s.next (omega arith) (omega arith))
+    go None = refl
 
 -- ---- the loop
 pub text_append : (ls : List Line) (l : Line) → text_of (ls ++ l ∷ []) ≡ text_of ls ++ line_text l
@@ -188,27 +200,27 @@ module _ (p₀ : Player) (block : List ℕ) (last : Bool) (out₀ : List ℕ) (p
   unfolding playing
   spent n = whole refl (let z : room ≡ 0 = omega arith in ap (λ (n : ℕ). playing n last p block at) z)
 
-  module _ (s : Step) (is : s ≡ step_at last p block at) (some : 0 < room) where
-    step_is : playing room last p block at ≡ go_on s.shown (stopped p at) (λ next. playing (room - 1) last s.player block next)
+  module _ (s : Step) (is : s ≡ step_at last p block at) (left : ℕ) (some : room ≡ suc left) where
+    step_is : playing room last p block at ≡ go_on s.shown (stopped p at) (λ next. playing left last s.player block next)
     unfolding playing
     step_is =
-        let n : room ≡ suc (room - 1) = omega arith in
-        ap (λ (n : ℕ). playing n last p block at) n
-        ∙ ap (λ (s : Step). go_on s.shown (stopped p at) (λ next. playing (room - 1) last s.player block next)) (sym is)
+        ap (λ (n : ℕ). playing n last p block at) some
+        ∙ ap (λ (s : Step). go_on s.shown (stopped p at) (λ next. playing left last s.player block next)) (sym is)
 
-    pub more : {l : Line} {next : ℕ} {out' : List ℕ} {written' : ℕ} → s.shown ≡ shown.Line l next
-        → Written (line_text l) out written out' written' → Playing p₀ block last out₀ s.player out' next written' (room - 1)
-    more {l} {next} {out'} {written'} e w =
+    pub more : {n : Shown} {out' : List ℕ} {written' : ℕ} → s.shown ≡ Some n
+        → Written (line_text n.line) out written out' written' → Playing p₀ block last out₀ s.player out' n.next written' left
+    more {n} {out'} {written'} e w =
+        let l : Line = n.line in
         let put : Put (line_text l) out written out' written' = with_room (omega (arith, h.fits, h.sized)) w in
         record {
           lines = h.lines ++ l ∷ [];
           fits = omega (arith, h.fits, w.short);
           sized = ap length put.bytes ∙ length-sets out written (line_text l) ∙ h.sized;
           put = rw (text_append h.lines l) (then h.put put);
-          rest = h.rest ∙ ap (before h.lines) (rw e at step_is) ∙ before-before h.lines l (playing (room - 1) last s.player block next);
+          rest = h.rest ∙ ap (before h.lines) (rw e at step_is) ∙ before-before h.lines l (playing left last s.player block n.next);
         }
 
-    pub ended : s.shown ≡ shown.Nothing
+    pub ended : s.shown ≡ None
         → Plays (playing (length out₀ / longest) last p₀ block 0) out₀ out (record { player = s.player; used = at; written = written })
     ended e =
         let on : Onward p at (length block) s.player s.shown = rw is (onward last p block at) in

@@ -1,6 +1,6 @@
 -- Playing a bench recording, record by record. Document 02, P1.
 -- Assumes nothing.
-use Rattle.std.specs.Prelude.{◌≡◌, ℕ, zero, suc, ◌+◌, ◌%◌, ◌^◌, Bool, true, false, cond, List, [], ◌∷◌, ◌++◌, length, take, drop}
+use Rattle.std.specs.Prelude.{◌≡◌, ℕ, zero, suc, ◌+◌, ◌%◌, ◌^◌, Bool, true, false, cond, List, [], ◌∷◌, ◌++◌, Option, Some, None, Result, Ok, Err, length, take, drop}
 use Rattle.std.proofs.lemmas.List.Edits.{sets}
 use Rattle.xenpak.specs.declared.Module.{Module}
 use Rattle.reads.specs.Reads.{line_of}
@@ -8,13 +8,14 @@ use Rattle.calls.specs.Calls.{said, step}
 use Rattle.calls.specs.declared.Call.{Call}
 use Rattle.recording.specs.Recording.{item_at}
 use Rattle.recording.specs.declared.Item.{Item}
-use Rattle.recording.specs.declared.Item.TheVariants as item
+use Rattle.recording.specs.declared.Body.{Body}
+use Rattle.recording.specs.declared.Flaw.{Flaw}
+use Rattle.recording.specs.declared.Flaw.TheVariants.{UnknownKind, CutShort}
 use Rattle.io.specs.Counts.{IsPrefixLen}
 use Rattle.printout.specs.Line.{line_text}
 use Rattle.printout.specs.declared.Line.{Line}
 use Rattle.player.specs.declared.Player.{Player}
 use Rattle.player.specs.declared.Shown.{Shown}
-use Rattle.player.specs.declared.Shown.TheVariants as shown
 use Rattle.player.specs.declared.Step.{Step}
 use Rattle.player.specs.declared.Played.{Played}
 
@@ -31,7 +32,7 @@ abbrev pub shows : Player → Module → (kind refusal next : ℕ) → Step
 shows p m kind refusal next =
     record {
       player = player m ((p.index + 1) % 2 ^ 64) p.over;
-      shown = shown.Line (record { index = p.index; kind = kind; refusal = refusal; alarm = line_of m }) next;
+      shown = Some (record { line = record { index = p.index; kind = kind; refusal = refusal; alarm = line_of m }; next = next });
     }
 
 -- a call: the module is the one that it leaves, refused or not
@@ -44,14 +45,17 @@ abbrev pub ended : Player → (kind number size : ℕ) → Step
 ended p kind number size = shows (player p.unit p.index true) p.unit kind number size
 
 abbrev pub still : Player → Step
-still p = record { player = p; shown = shown.Nothing }
+still p = record { player = p; shown = None }
 
 -- 9: unknown kind; 10: a body cut short, which it is where no more bytes follow
-abbrev pub step_by : (last : Bool) → Player → (size : ℕ) → Item → Step
-step_by last p size (item.Call kind c next) = played p kind c next
-step_by last p size (item.Unknown kind) = ended p kind 9 size
-step_by last p size (item.Short kind) = cond last (ended p kind 10 size) (still p)
-step_by last p size item.End = still p
+abbrev pub step_of : (last : Bool) → Player → (kind size : ℕ) → Result Body Flaw → Step
+step_of last p kind size (Ok b) = played p kind b.call b.next
+step_of last p kind size (Err UnknownKind) = ended p kind 9 size
+step_of last p kind size (Err CutShort) = cond last (ended p kind 10 size) (still p)
+
+abbrev pub step_by : (last : Bool) → Player → (size : ℕ) → Option Item → Step
+step_by last p size None = still p
+step_by last p size (Some i) = step_of last p i.kind size i.body
 
 -- the record at a position
 unfoldable pub step_at : (last : Bool) → Player → List ℕ → (at : ℕ) → Step
@@ -72,9 +76,9 @@ stopped p at = record { lines = []; used = at; player = p }
 abbrev pub before : List Line → Transcript → Transcript
 before ls t = record { lines = ls ++ t.lines; used = t.used; player = t.player }
 
-abbrev pub go_on : Shown → (nothing : Transcript) → (more : ℕ → Transcript) → Transcript
-go_on (shown.Line l next) nothing more = before (l ∷ []) (more next)
-go_on shown.Nothing nothing more = nothing
+abbrev pub go_on : Option Shown → (nothing : Transcript) → (more : ℕ → Transcript) → Transcript
+go_on (Some s) nothing more = before (s.line ∷ []) (more s.next)
+go_on None nothing more = nothing
 
 -- at most n records, from a position on
 unfoldable pub playing : (n : ℕ) (last : Bool) → Player → List ℕ → (at : ℕ) → Transcript

@@ -1,16 +1,17 @@
 // Plays a bench recording on a module: one record at a time, or a block of them with their lines as text.
 #![tactic(auto)]
 
-ghost use Rattle.std.specs.Prelude.{◌≡◌, ◌/◌, min, length};
+ghost use Rattle.std.specs.Prelude.{◌≡◌, ◌/◌, length};
 ghost use Rattle.creation.specs.Creation.{blank};
 ghost use Rattle.printout.specs.Line.{longest};
+ghost use Rattle.recording.specs.Recording.{flaw_number};
 ghost use Rattle.player.specs.Player.{started, shows, played, ended, still, step_at, playing, Plays, Kept};
 
 use calls::Call;
 use creation::make;
 use printout::{LONGEST, Line};
 use reads::alarm_line;
-use recording::{CUT_SHORT, Item, UNKNOWN_KIND, item_at};
+use recording::{Flaw, item_at};
 use refusal::refusal_of;
 use xenpak::Module;
 
@@ -26,17 +27,18 @@ pub struct Player {
     pub over: bool,
 }
 
-// A record's line, and the position after the record; nothing where no record is played.
+// A record's line, and the position after the record.
 #[derive(Clone, Copy)]
-pub enum Shown {
-    Line(Line, usize),
-    Nothing,
+pub struct Shown {
+    pub line: Line,
+    pub next: usize,
 }
 
+// What playing a record leaves; nothing is shown where no record is played.
 #[derive(Clone, Copy)]
 pub struct Step {
     pub player: Player,
-    pub shown: Shown,
+    pub shown: Option<Shown>,
 }
 
 // A block played: how many of its bytes are used, and how many characters of lines are written.
@@ -47,19 +49,13 @@ pub struct Played {
     pub written: usize,
 }
 
-fn least(a: usize, b: usize) -> usize
-    ensures { result ≡ min a b }
-{
-    if a < b { a } else { b }
-}
-
 impl Player {
     // A player of this module, before the first record.
     pub fn of(unit: Module) -> Player
         ensures { result ≡ started unit }
     {
         Player {
-            unit: unit,
+            unit,
             index: 0,
             over: false,
         }
@@ -83,15 +79,15 @@ impl Player {
     {
         let line = Line {
             index: self.index,
-            kind: kind,
-            refusal: refusal,
+            kind,
+            refusal,
             alarm: alarm_line(unit),
         };
         self.unit = unit;
-        self.index = std::num::wrapping_add_u64(self.index, 1);
+        self.index = self.index.wrapping_add(1);
         Step {
             player: self,
-            shown: Shown::Line(line, next),
+            shown: Some(Shown { line, next }),
         }
     }
 
@@ -106,11 +102,11 @@ impl Player {
     }
 
     // A record that the recording refuses: the module stays, and nothing is played after it, so all bytes are used.
-    fn ended(mut self, kind: u8, number: u8, size: usize) -> Step
-        ensures { result ≡ ended self kind number size }
+    fn ended(mut self, kind: u8, flaw: Flaw, size: usize) -> Step
+        ensures { result ≡ ended self kind (flaw_number flaw) size }
     {
         self.over = true;
-        self.shows(self.unit, kind, number, size)
+        self.shows(self.unit, kind, flaw.number(), size)
     }
 
     fn still(self) -> Step
@@ -118,7 +114,7 @@ impl Player {
     {
         Step {
             player: self,
-            shown: Shown::Nothing,
+            shown: None,
         }
     }
 
@@ -130,16 +126,13 @@ impl Player {
         if self.over {
             return self.still();
         }
-        let item = item_at(bytes, at);
-        match item {
-            Item::Call(kind, call, next) => self.played(kind, call, next),
-            Item::Unknown(kind) => self.ended(kind, UNKNOWN_KIND, bytes.len()),
-            Item::Short(kind) => if last {
-                self.ended(kind, CUT_SHORT, bytes.len())
-            } else {
-                self.still()
-            },
-            Item::End => self.still(),
+        let Some(item) = item_at(bytes, at) else {
+            return self.still();
+        };
+        match item.body {
+            Ok(body) => self.played(item.kind, body.call, body.next),
+            Err(Flaw::CutShort) if !last => self.still(),
+            Err(flaw) => self.ended(item.kind, flaw, bytes.len()),
         }
     }
 
@@ -149,26 +142,19 @@ impl Player {
     {
         let mut at = 0;
         let mut written = 0;
-        let mut room = out.len() / LONGEST;
-        while room > 0 {
+        for _ in 0..out.len() / LONGEST {
             let step = self.step(block, at, last);
             self = step.player;
-            let shown = step.shown;
-            match shown {
-                Shown::Line(line, next) => {
-                    written = line.write(out, written);
-                    at = next;
-                    room -= 1;
-                }
-                Shown::Nothing => {
-                    break;
-                }
-            }
+            let Some(shown) = step.shown else {
+                break;
+            };
+            written = shown.line.write(out, written);
+            at = shown.next;
         }
         Played {
             player: self,
             used: at,
-            written: written,
+            written,
         }
     }
 }
@@ -177,13 +163,8 @@ impl Player {
 pub fn keep(buffer: &mut [u8], from: usize, end: usize) -> usize
     ensures { Kept from end buffer.old buffer.new result }
 {
-    let to = least(buffer.len(), end);
-    let mut i = from;
-    let mut n = 0;
-    while i < to {
-        buffer[n] = buffer[i];
-        i += 1;
-        n += 1;
-    }
-    n
+    let to = end.min(buffer.len());
+    let from = from.min(to);
+    buffer.copy_within(from..to, 0);
+    to - from
 }

@@ -3,16 +3,18 @@
 use Prim.Native.Nat.{ℕ, zero, suc, ◌+◌, ◌*◌, ◌-◌, ◌/◌, ◌%◌, ◌^◌, ◌≤◌, ◌<◌}
 use native.Mathlib.Nat.{add-zero, add-suc, suc-add, pow-suc, pow-le-pow_right}
 use native.Mathlib.Omega.{arith}
-use native.Mathlib.Numerals.{add-one, sub-one}
+use native.Mathlib.Numerals.{sub-one}
 use mathlib.Core.Bool.{Bool, true, false, cond}
-use mathlib.Core.List.{List, [], ◌∷◌, ◌++◌}
+use mathlib.Core.List.{List, [], ◌∷◌, ◌++◌, append-nil, append_assoc}
 use mathlib.Core.Path.{◌≡◌, refl, sym, ap, ap₂, ◌∙◌}
 use lib.Dec.{eqb, leb, ltb}
-use lib.ListN.{length, get_or, take, set, length-append, length-set}
-use lib.Seq.{sets, length-take-le, take_all, take-suc}
+use lib.ListN.{length, take, drop, set, length-append, length-drop}
+use lib.Seq.{sets, sets-eq, drop-drop, take_all}
+use borrow.Rule.Slice.PartMut.{put_mid, mid_of}
 use borrow.Author.Tests.{lt-ltb, le-ltb, le-leb, lt-leb, ltb-false, leb-true, leb-false}
+use Rattle.std.proofs.lemmas.List.{drop_all}
 use Rattle.io.specs.Digits.{hex_digit_ascii, last_digits, IsDigitCount}
-use Rattle.printout.specs.Line.{dash, digits_within, decimal, refusal_text, line_text, longest, Put, Written}
+use Rattle.printout.specs.Line.{space, dash, newline, digits_within, decimal, kind_text, refusal_text, alarm_digit, line_text, longest, Put, Written}
 use Rattle.printout.specs.declared.Line.{Line}
 
 -- ---- one text behind another
@@ -29,31 +31,28 @@ then {t} {u} {a} {i = i} p q =
       ends = omega (arith, p.ends, q.ends, length-append t u);
     }
 
--- ---- a text put one character after the other
--- the first i of its characters are put
-pub record Putting (text before : List ℕ) (at : ℕ) (after : List ℕ) (i : ℕ) : Type 0 where
-  pub within : i ≤ length text
-  pub sized : length after ≡ length before
-  pub bytes : after ≡ sets before at (take i text)
+-- a text copied over the front
+pub copied : (t l : List ℕ) → length t ≤ length l → Put t l 0 (put_mid 0 (length t) l t) (length t)
+copied t l h =
+    let n : length t ≡ 0 + length t = omega arith in
+    record { bytes = ap (λ (n : ℕ). t ++ drop n l) n ∙ sym (sets-eq t l 0 (omega arith)); ends = n }
 
-pub none : (t l : List ℕ) (at : ℕ) → Putting t l at l 0
-none t l at = record { within = omega arith; sized = refl; bytes = refl }
-
-pub more : (t l : List ℕ) (at : ℕ) (a : List ℕ) (i : ℕ) → Putting t l at a i → i < length t
-    → Putting t l at (set a (at + i) (get_or t i 0)) (i + 1)
-more t l at a i p h =
+-- a text at the front of what is behind a position is at that position
+pub behind : {t a : List ℕ} {n : ℕ} (l : List ℕ) (at k : ℕ) → Put t (mid_of at k l) 0 a n → at + k ≡ length l → length t ≤ k
+    → Put t l at (put_mid at k l a) (at + n)
+behind {t} {a} {n} l at k p e h =
+    let rest : mid_of at k l ≡ drop at l = take_all k (drop at l) (omega (arith, length-drop at l)) in
+    let none : drop k (drop at l) ≡ [] = drop_all k (drop at l) (omega (arith, length-drop at l)) in
+    let front : a ≡ t ++ drop (0 + length t) (drop at l) =
+    p.bytes ∙ ap (λ (m : List ℕ). sets m 0 t) rest ∙ sets-eq t (drop at l) 0 (omega (arith, length-drop at l)) in
     record {
-      within = omega arith;
-      sized = length-set a (at + i) (get_or t i 0) ∙ p.sized;
       bytes =
-          ap₂ (λ (b : List ℕ) (n : ℕ). set b (at + n) (get_or t i 0)) p.bytes (sym (length-take-le i t p.within))
-          ∙ sets-append l at (take i t) (get_or t i 0 ∷ [])
-          ∙ ap (sets l at) (sym (take-suc t i 0 h) ∙ ap (λ (n : ℕ). take n t) (sym (add-one i)));
+          rw (none, append-nil a, front)
+          (sym (append_assoc (take at l) t (drop (0 + length t) (drop at l)))
+          ∙ ap (λ (r : List ℕ). (take at l ++ t) ++ r) (drop-drop (0 + length t) at l ∙ ap (λ (n : ℕ). drop n l) (omega arith))
+          ∙ sym (sets-eq t l at (omega arith)));
+      ends = omega (arith, p.ends);
     }
-
-pub whole : (t l : List ℕ) (at : ℕ) (a : List ℕ) (i : ℕ) → Putting t l at a i → length t ≤ i → Put t l at a (at + i)
-whole t l at a i p h =
-    record { bytes = p.bytes ∙ ap (sets l at) (take_all i t h); ends = omega (arith, p.within) }
 
 -- ---- decimal digits
 -- the digits that the kit finds to be the fewest are those of the definition
@@ -97,15 +96,22 @@ digits-length (suc most) k n h = go k (ltb n 10) refl h (λ k. digits-length mos
         omega (arith, length-append (digits_within most (n / 10)) (hex_digit_ascii (n % 10) ∷ []), rest k (rw pow-suc (omega arith)))
 
 -- ---- a line
-pub line-length : (l : Line) → length (line_text l) ≡ length (decimal l.index) + length (refusal_text l.refusal) + 7
+pub line_length : (l : Line) → length (line_text l) ≡ length (decimal l.index) + length (refusal_text l.refusal) + 7
 unfolding line_text
-line-length l = simp length-append (omega arith)
+line_length l = simp length-append (omega arith)
+
+-- its parts
+pub line_is : (l : Line)
+    → line_text l ≡ decimal l.index ++ (space ∷ kind_text l.kind ++ space ∷ []) ++ refusal_text l.refusal
+    ++ space ∷ alarm_digit l.alarm ∷ newline ∷ []
+unfolding line_text
+line_is l = simp append_assoc refl
 
 -- none is longer
 pub at_most : (l : Line) → l.index < 2 ^ 64 → l.refusal < 2 ^ 8 → length (line_text l) ≤ longest
 unfolding decimal
 at_most l i r =
-    omega (arith, line-length l, digits-length 20 19 l.index (omega arith), numbered (eqb l.refusal 0))
+    omega (arith, line_length l, digits-length 20 19 l.index (omega arith), numbered (eqb l.refusal 0))
   where
     numbered : (b : Bool) → length (cond b (dash ∷ []) (decimal l.refusal)) ≤ 3
     numbered true = omega arith

@@ -1,7 +1,7 @@
 // A line of a play, as text: index, kind, refusal and alarm line.
 #![tactic(auto)]
 
-ghost use Rattle.std.specs.Prelude.{◌≡◌, [], ◌∷◌, ◌+◌, ◌≤◌, ◌<◌, length};
+ghost use Rattle.std.specs.Prelude.{◌≡◌, [], ◌∷◌, ◌++◌, ◌≤◌, ◌<◌, length};
 ghost use Rattle.io.specs.Digits.{hex_digit_ascii};
 ghost use Rattle.printout.specs.Line.{space, decimal, kind_text, refusal_text, alarm_digit, line_text, Put, Written};
 
@@ -20,57 +20,23 @@ pub struct Line {
 // No line is longer: 20 digits of the index, 2 of the kind, 3 of the refusal, 1 of the alarm line, spaces, newline.
 pub const LONGEST: usize = 30;
 
-// Each `put` writes characters from a position on, and gives the position after them.
-fn put(byte: u8, out: &mut [u8], at: usize) -> usize
-    requires { at + 1 ≤ length out.old }
-    ensures { Put (byte ∷ []) out.old at out.new result }
+// Each `put` writes characters at the front, and gives how many they are.
+fn put(characters: &[u8], out: &mut [u8]) -> usize
+    requires { length characters.now ≤ length out.old }
+    ensures { Put characters.now out.old 0 out.new result }
 {
-    out[at] = byte;
-    at + 1
-}
-
-fn put_three(a: u8, b: u8, c: u8, out: &mut [u8], at: usize) -> usize
-    requires { at + 3 ≤ length out.old }
-    ensures { Put (a ∷ b ∷ c ∷ []) out.old at out.new result }
-{
-    out[at] = a;
-    out[at + 1] = b;
-    out[at + 2] = c;
-    at + 3
-}
-
-fn put_text(text: &[u8], out: &mut [u8], at: usize) -> usize
-    requires { at + length text.now ≤ length out.old }
-    ensures { Put text.now out.old at out.new result }
-{
-    let mut i = 0;
-    while i < text.len() {
-        out[at + i] = text[i];
-        i += 1;
-    }
-    at + i
+    out[..characters.len()].copy_from_slice(characters);
+    characters.len()
 }
 
 // A number in decimal.
-fn put_decimal(n: u64, out: &mut [u8], at: usize) -> usize
-    requires { at + length (decimal n) ≤ length out.old }
-    ensures { Put (decimal n) out.old at out.new result }
+fn put_decimal(n: u64, out: &mut [u8]) -> usize
+    requires { length (decimal n) ≤ length out.old }
+    ensures { Put (decimal n) out.old 0 out.new result }
 {
     let mut digits = [0; 20];
     let count = io::decimal(n, &mut digits);
-    put_text(&digits[..count], out, at)
-}
-
-// A refusal's number, or a dash where there is none.
-fn put_refusal(number: u8, out: &mut [u8], at: usize) -> usize
-    requires { at + length (refusal_text number) ≤ length out.old }
-    ensures { Put (refusal_text number) out.old at out.new result }
-{
-    if number == 0 {
-        put(b'-', out, at)
-    } else {
-        put_decimal(number as u64, out, at)
-    }
+    put(&digits[..count], out)
 }
 
 // A hexadecimal digit.
@@ -81,34 +47,48 @@ fn glyph(d: u8) -> u8
     if d < 10 { b'0' + d } else { b'a' - 10 + d }
 }
 
+// A kind in two hexadecimal digits, between spaces.
+fn put_kind(kind: u8, out: &mut [u8]) -> usize
+    requires { 4 ≤ length out.old }
+    ensures { Put (space ∷ kind_text kind ++ space ∷ []) out.old 0 out.new result }
+{
+    put(&[b' ', glyph(kind / 16), glyph(kind % 16), b' '], out)
+}
+
+// A refusal's number, or a dash where there is none.
+fn put_refusal(number: u8, out: &mut [u8]) -> usize
+    requires { length (refusal_text number) ≤ length out.old }
+    ensures { Put (refusal_text number) out.old 0 out.new result }
+{
+    if number == 0 {
+        put(b"-", out)
+    } else {
+        put_decimal(u64::from(number), out)
+    }
+}
+
 fn alarm_digit(alarm: bool) -> u8
     ensures { result ≡ alarm_digit alarm }
 {
-    if alarm { b'1' } else { b'0' }
-}
-
-// A space, and a kind in two hexadecimal digits.
-fn put_kind(kind: u8, out: &mut [u8], at: usize) -> usize
-    requires { at + 3 ≤ length out.old }
-    ensures { Put (space ∷ kind_text kind) out.old at out.new result }
-{
-    put_three(b' ', glyph(kind / 16), glyph(kind % 16), out, at)
-}
-
-fn put_line(line: Line, out: &mut [u8], at: usize) -> usize
-    requires { at + length (line_text line) ≤ length out.old }
-    ensures { Put (line_text line) out.old at out.new result }
-{
-    let after_index = put_decimal(line.index, out, at);
-    let after_kind = put_kind(line.kind, out, after_index);
-    let before_refusal = put(b' ', out, after_kind);
-    let after_refusal = put_refusal(line.refusal, out, before_refusal);
-    put_three(b' ', alarm_digit(line.alarm), b'\n', out, after_refusal)
+    b'0' + u8::from(alarm)
 }
 
 impl Line {
+    // Puts the line.
+    #[tactic(auto, using(crate::proofs::Text::line_length))]
+    fn put(self, out: &mut [u8]) -> usize
+        requires { length (line_text self) ≤ length out.old }
+        ensures { Put (line_text self) out.old 0 out.new result }
+    {
+        let mut end = put_decimal(self.index, out);
+        end += put_kind(self.kind, &mut out[end..]);
+        end += put_refusal(self.refusal, &mut out[end..]);
+        end + put(&[b' ', alarm_digit(self.alarm), b'\n'], &mut out[end..])
+    }
+
     // Writes the line from a position on, and gives the position after it. Where there is no room for the longest line nothing
     // is written, and the position is the same.
+    #[tactic(auto, using(crate::proofs::Text::at_most))]
     pub fn write(self, out: &mut [u8], at: usize) -> usize
         ensures { Written (line_text self) out.old at out.new result }
     {
@@ -118,6 +98,6 @@ impl Line {
         if out.len() - LONGEST < at {
             return at;
         }
-        put_line(self, out, at)
+        at + self.put(&mut out[at..])
     }
 }

@@ -1,3 +1,2 @@
 -- Laws of `recording` that belong to no one function.
 pub mod KnownKinds
-pub mod Tail

@@ -1,6 +1,6 @@
 -- The records of a bench recording. Document 02, P1.
 -- Assumes nothing.
-use Rattle.std.specs.Prelude.{ℕ, ◌+◌, ◌*◌, ◌-◌, Bool, cond, not, ◌&&◌, List, eqb, leb, ltb, length, get_or, drop}
+use Rattle.std.specs.Prelude.{ℕ, ◌+◌, ◌*◌, ◌-◌, Bool, cond, not, ◌&&◌, List, Option, Some, None, Result, Ok, Err, eqb, leb, ltb, length, get_or, drop}
 use Rattle.words.specs.Words.{bit}
 use Rattle.store.specs.declared.Cut.TheVariants.{Clean, Torn}
 use Rattle.dom.specs.Codes.{signed_code}
@@ -8,8 +8,15 @@ use Rattle.dom.specs.declared.Sample.{Sample}
 use Rattle.alarms.specs.declared.Lines.{Lines}
 use Rattle.calls.specs.declared.Call.{Call}
 use Rattle.calls.specs.declared.Call.TheVariants as call
+use Rattle.recording.specs.declared.Flaw.{Flaw}
+use Rattle.recording.specs.declared.Flaw.TheVariants.{UnknownKind, CutShort}
+use Rattle.recording.specs.declared.Body.{Body}
 use Rattle.recording.specs.declared.Item.{Item}
-use Rattle.recording.specs.declared.Item.TheVariants.{Call as Whole, Unknown, Short, End}
+
+-- the recording's refusals, beside the module's 1 to 8: an unknown kind, and a body cut short
+abbrev pub flaw_number : Flaw → ℕ
+flaw_number UnknownKind = 9
+flaw_number CutShort = 10
 
 -- the kinds are 01 to 08
 abbrev pub known : ℕ → Bool
@@ -63,10 +70,15 @@ call_of kind body =
     (cond (eqb kind 0x07) (call.Sample (sample_of body))
     (call.Lines (lines_of body))))))))
 
--- what stands at a position: no byte; a kind that is none of these; a body cut short; a record, and the position after it
-unfoldable pub item_at : List ℕ → ℕ → Item
+-- what follows a kind: refused where the kind is none of these, or the body cut short; else a call, and the position after it
+unfoldable pub body_at : (kind : ℕ) → List ℕ → (at : ℕ) → Result Body Flaw
+body_at kind bytes at =
+    cond (not (known kind)) (Err UnknownKind)
+    (cond (ltb (length bytes - (at + 1)) (body_length kind)) (Err CutShort)
+    (Ok (record { call = call_of kind (drop (at + 1) bytes); next = at + 1 + body_length kind })))
+
+-- what stands at a position: nothing where no byte is left, else a kind and what follows it
+unfoldable pub item_at : List ℕ → ℕ → Option Item
 item_at bytes at =
-    cond (leb (length bytes) at) End
-    (cond (not (known (get_or bytes at 0))) (Unknown (get_or bytes at 0))
-    (cond (ltb (length bytes - (at + 1)) (body_length (get_or bytes at 0))) (Short (get_or bytes at 0))
-    (Whole (get_or bytes at 0) (call_of (get_or bytes at 0) (drop (at + 1) bytes)) (at + 1 + body_length (get_or bytes at 0)))))
+    cond (leb (length bytes) at) None
+    (Some (record { kind = get_or bytes at 0; body = body_at (get_or bytes at 0) bytes at }))

@@ -1,8 +1,8 @@
 // A bench recording's bytes as calls: a record is one byte of kind, then a body, whose numbers come high byte first.
 #![tactic(auto)]
 
-ghost use Rattle.std.specs.Prelude.{true, ◌≡◌, ◌+◌, ◌≤◌, length};
-ghost use Rattle.recording.specs.Recording.{known, body_length, word, frame_of, sample_of, lines_of, call_of, item_at};
+ghost use Rattle.std.specs.Prelude.{true, ◌≡◌, ◌+◌, ◌<◌, ◌≤◌, length};
+ghost use Rattle.recording.specs.Recording.{flaw_number, known, body_length, word, frame_of, sample_of, lines_of, call_of, body_at, item_at};
 
 use alarms::Lines;
 use calls::Call;
@@ -10,29 +10,44 @@ use dom::{Sample, signed_code};
 use store::Cut;
 use words::bit;
 
-// The recording's refusals, beside the module's: an unknown kind, and a body cut short.
-pub const UNKNOWN_KIND: u8 = 9;
+// Why a recording's own record is refused, before the module is asked.
+#[derive(Clone, Copy, PartialEq, Eq, Debug, Drop)]
+pub enum Flaw {
+    UnknownKind,
+    CutShort,
+}
 
-pub const CUT_SHORT: u8 = 10;
-
-// What stands at a position of a recording.
+// A whole body: the call that it records, and the position after it.
 #[derive(Clone, Copy)]
-pub enum Item {
-    // A whole record: its kind, its call, and the position after it.
-    Call(u8, Call, usize),
-    // An unknown kind.
-    Unknown(u8),
-    // A kind whose body is cut short.
-    Short(u8),
-    // No byte is left.
-    End,
+pub struct Body {
+    pub call: Call,
+    pub next: usize,
+}
+
+// What stands at a position of a recording: a kind, as it was read, and what follows it.
+#[derive(Clone, Copy)]
+pub struct Item {
+    pub kind: u8,
+    pub body: Result<Body, Flaw>,
+}
+
+impl Flaw {
+    // The refusal's number, beside the module's 1 to 8.
+    pub fn number(self) -> u8
+        ensures { result ≡ flaw_number self }
+    {
+        match self {
+            Flaw::UnknownKind => 9,
+            Flaw::CutShort => 10,
+        }
+    }
 }
 
 // The kinds are 01 to 08.
 pub fn known(kind: u8) -> bool
     ensures { result ≡ known kind }
 {
-    (1 <= kind) & (kind <= 8)
+    (1..=8).contains(&kind)
 }
 
 // How many bytes of body follow a kind; none follows an unknown one.
@@ -48,25 +63,20 @@ pub fn body_length(kind: u8) -> usize
     }
 }
 
-fn wide(byte: u8) -> u16
-    ensures { (result ≡ byte) × (result ≤ 255) }
-{
-    byte as u16
-}
-
 // The number of two bytes, high byte first.
 fn word(body: &[u8], at: usize) -> u16
     requires { at + 2 ≤ length body.now }
     ensures { result ≡ word body.now at }
 {
-    wide(body[at]) * 256 + wide(body[at + 1])
+    u16::from_be_bytes([body[at], body[at + 1]])
 }
 
+// The four bytes of a frame, high byte first.
 fn frame(body: &[u8]) -> u32
     requires { 4 ≤ length body.now }
     ensures { result ≡ frame_of body.now }
 {
-    word(body, 0) as u32 * 0x1_0000 + word(body, 2) as u32
+    u32::from_be_bytes([body[0], body[1], body[2], body[3]])
 }
 
 fn sample(body: &[u8]) -> Sample
@@ -86,7 +96,7 @@ fn lines(body: &[u8]) -> Lines
     requires { 5 ≤ length body.now }
     ensures { result ≡ lines_of body.now }
 {
-    let levels = wide(body[4]);
+    let levels = u16::from(body[4]);
     Lines {
         receive: word(body, 0),
         transmit: word(body, 2),
@@ -115,22 +125,34 @@ fn call_of(kind: u8, body: &[u8]) -> Call
     }
 }
 
-// The record at a position.
-#[tactic(auto, unfolding(crate::specs::Recording::item_at))]
-pub fn item_at(bytes: &[u8], at: usize) -> Item
-    ensures { result ≡ item_at bytes.now at }
+// What follows a kind: the body of a known one, if it is whole.
+#[tactic(auto, unfolding(crate::specs::Recording::body_at))]
+fn body_at(kind: u8, bytes: &[u8], at: usize) -> Result<Body, Flaw>
+    requires { at < length bytes.now }
+    ensures { result ≡ body_at kind bytes.now at }
 {
-    if bytes.len() <= at {
-        return Item::End;
-    }
-    let kind = bytes[at];
     if !known(kind) {
-        return Item::Unknown(kind);
+        return Err(Flaw::UnknownKind);
     }
     let start = at + 1;
     let length = body_length(kind);
     if bytes.len() - start < length {
-        return Item::Short(kind);
+        return Err(Flaw::CutShort);
     }
-    Item::Call(kind, call_of(kind, &bytes[start..]), start + length)
+    Ok(Body {
+        call: call_of(kind, &bytes[start..]),
+        next: start + length,
+    })
+}
+
+// The record at a position; none where no byte is left.
+#[tactic(auto, unfolding(crate::specs::Recording::item_at))]
+pub fn item_at(bytes: &[u8], at: usize) -> Option<Item>
+    ensures { result ≡ item_at bytes.now at }
+{
+    let kind = *bytes.get(at)?;
+    Some(Item {
+        kind,
+        body: body_at(kind, bytes, at),
+    })
 }

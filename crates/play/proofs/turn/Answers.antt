@@ -1,13 +1,11 @@
--- The sign of a read's answer tells, and it counts no bytes but those read.
-use Rattle.std.proofs.Math.Facts.{to_z-of_z}
-use Rattle.play.proofs.Turns.{negative, not_negative}
+-- What a read brought is played, and counts no bytes but those that there is room for.
+use Rattle.std.proofs.Common.{arith, refl}
+use Rattle.play.specs.Turn.{fails}
+use Rattle.play.proofs.Turns.{came}
 use Rattle.play.proofs.turn.Goals as goal
 
-pub returns-then-failed : goal.returns-then-failed
-returns-then-failed c = negative _ _ _ _ c.args.got (rw (to_z-of_z c.ranges.got) at c.if-failed.true)
+pub returns-in_default : goal.returns-in_default
+returns-in_default c = rw c.in_default.is (fails refl refl)
 
 pub returns : goal.returns
-returns c =
-    let is = to_z-of_z c.ranges.got in
-    not_negative _ c.args.held c.args.input.now _ c.args.got c.count-count.result (rw is at c.if-failed.false)
-    (rw is at c.count-count.ensures.value) c.played.ensures
+returns c = rw c.in-Some.is (came _ _ (omega (arith, c.min-count.ensures, c.told-input)) c.played.ensures)

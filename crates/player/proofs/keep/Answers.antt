@@ -1,6 +1,6 @@
--- After the last turn all that was left is moved.
-use Rattle.player.proofs.Keeping.{whole}
+-- What is left is moved.
+use Rattle.player.proofs.Keeping.{kept}
 use Rattle.player.proofs.keep.Goals as goal
 
 pub returns : goal.returns
-returns c = whole _ _ _ _ _ _ c.loop-i.invariant _ c.least-to.ensures c.loop-i-test.false
+returns c = rw c.copy_within.ensures.after (kept _ _ _ _ _ c.min-to.ensures c.min-from.ensures)

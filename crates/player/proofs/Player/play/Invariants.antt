@@ -1,9 +1,7 @@
 -- Each turn plays one record and writes its line.
+use Rattle.std.proofs.Common.{◌-◌}
 use Rattle.player.proofs.Playing.{Playing}
 use Rattle.player.proofs.Player.play.Given as goal
 
-abbrev pub invariant-loop-room : goal.invariant-loop-room
-invariant-loop-room l = Playing l.fn.self l.fn.block l.fn.last l.fn.out l.self l.out l.at l.written l.room
-
-abbrev pub decreases-loop-room : goal.decreases-loop-room
-decreases-loop-room l = l.room
+abbrev pub invariant-loop : goal.invariant-loop
+invariant-loop l = Playing l.fn.self l.fn.block l.fn.last l.fn.out l.self l.out l.at l.written (l.end - l.counter)
