@@ -106,7 +106,7 @@ impl Player {
         ensures { result ≡ ended self kind (flaw_number flaw) size }
     {
         self.over = true;
-        self.shows(self.unit, kind, flaw.number(), size)
+        self.shows(self.unit, kind, u8::from(flaw), size)
     }
 
     fn still(self) -> Step

@@ -31,12 +31,12 @@ pub struct Item {
     pub body: Result<Body, Flaw>,
 }
 
-impl Flaw {
+impl From<Flaw> for u8 {
     // The refusal's number, beside the module's 1 to 8.
-    pub fn number(self) -> u8
-        ensures { result ≡ flaw_number self }
+    fn from(flaw: Flaw) -> u8
+        ensures { result ≡ flaw_number flaw }
     {
-        match self {
+        match flaw {
             Flaw::UnknownKind => 9,
             Flaw::CutShort => 10,
         }
