@@ -4,19 +4,18 @@ use Prim.Native.Nat.{ℕ, ◌+◌, ◌-◌, ◌/◌, ◌≤◌, min}
 use native.Mathlib.Omega.{arith}
 use mathlib.Core.Bool.{Bool, true, false, not, ◌&&◌}
 use mathlib.Core.List.{List}
-use mathlib.Core.Path.{◌≡◌, refl, sym, ap, ◌∙◌, subst}
+use mathlib.Core.Path.{◌≡◌, sym, ap, ◌∙◌, subst}
 use lib.Dec.{eqb}
 use lib.ListN.{length, take, drop, length-drop}
 use lib.Seq.{sets, length-take-le}
 use borrow.Author.Tests.{not-true}
-use Rattle.std.specs.Prelude.{Option, Some, None}
-use Rattle.io.specs.Counts.{IsPrefixLen}
+use Rattle.std.specs.Prelude.{Option, Some}
 use Rattle.printout.specs.Line.{longest}
 use Rattle.player.specs.Player.{Transcript, playing, transcript, Plays, Kept}
 use Rattle.player.specs.declared.Player.{Player}
 use Rattle.player.specs.declared.Played as player
 use Rattle.player.proofs.Playing.{enough, left_over}
-use Rattle.play.specs.Turn.{Played, Turned, fails, comes}
+use Rattle.play.specs.Turn.{Played, Turned, comes}
 use Rattle.play.specs.declared.Progress.{Progress}
 
 -- ---- a block
