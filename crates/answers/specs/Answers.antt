@@ -59,17 +59,16 @@ frame_given frame.Written = says 3 []
 frame_given frame.Dropped = says 4 []
 frame_given (frame.Data value) = says 5 (value ∷ [])
 
+-- of a frame's answer
 abbrev pub said_frame : Answer FrameAnswer → Said
 said_frame = said_by frame_given
 
 -- nothing, loaded, burned; offset and byte
-abbrev pub tick_given : TickAnswer → Said
-tick_given tick.Nothing = says 1 []
-tick_given (tick.Loaded offset byte) = says 2 (offset ∷ byte ∷ [])
-tick_given (tick.Burned offset byte) = says 3 (offset ∷ byte ∷ [])
-
-abbrev pub said_tick : Answer TickAnswer → Said
-said_tick = said_by tick_given
+abbrev pub said_tick : TickAnswer → Said
+said_tick tick.Nothing = says 1 []
+said_tick (tick.Loaded offset byte) = says 2 (offset ∷ byte ∷ [])
+said_tick (tick.Burned offset byte) = says 3 (offset ∷ byte ∷ [])
+said_tick (tick.Refused why) = refused_with why
 
 -- the count of ticks
 abbrev pub said_settle : Answer ℕ → Said

@@ -33,12 +33,14 @@ pub enum FrameAnswer {
     Data(u16),
 }
 
-// What an accepted tick gives: loaded and burned come with offset and byte.
+// The answer of a tick: loaded and burned come with offset and byte. Its refusal is one of its cases, since the compiled entry
+// chooses once among them: with a result around them a tick that has no job would copy store and copy.
 #[derive(Clone, Copy)]
 pub enum TickAnswer {
     Nothing,
     Loaded(u8, u8),
     Burned(u8, u8),
+    Refused(Refusal),
 }
 
 impl From<Refusal> for u8 {

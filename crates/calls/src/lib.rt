@@ -26,7 +26,7 @@ pub enum Call {
 pub enum CallAnswer {
     Plain(Answer<()>),
     Frame(Answer<FrameAnswer>),
-    Tick(Answer<TickAnswer>),
+    Tick(TickAnswer),
 }
 
 // The same outcome, its answer as one of those of calls.

@@ -36,9 +36,9 @@ fn lines(receive: u32, transmit: u32, levels: u32) -> Call {
 fn sample(temperature: u16, bias: u16, transmit: u16, receive: u16) -> Call {
     Call::Sample(Sample {
         temperature: signed_code(temperature),
-        bias: bias,
-        transmit: transmit,
-        receive: receive,
+        bias,
+        transmit,
+        receive,
     })
 }
 
@@ -86,13 +86,13 @@ fn once(rt: &impl Print, m: Module, call: Call, asks: bool) -> Module {
 
 // So many times the same call.
 fn repeated(rt: &impl Print, mut m: Module, call: Call, n: u32, asks: bool) -> Module {
-    for _i in 0..n {
+    for _ in 0..n {
         m = once(rt, m, call, asks);
     }
     m
 }
 
-// A step that makes a call; to write, read or walk, an address frame first. What is read is always shown.
+// A step that makes a call; to write, read or walk, an address frame first. What a read or a walk gives is always shown.
 fn called(rt: &impl Print, m: Module, step: Step, call: Call) -> Module {
     let n = times(step);
     let [first, _, _] = step.numbers;

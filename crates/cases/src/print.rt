@@ -23,10 +23,8 @@ impl From<CallAnswer> for Given {
         match answer {
             CallAnswer::Plain(Ok(())) => Given::Accepted,
             CallAnswer::Frame(Ok(given)) => Given::Frame(given),
-            CallAnswer::Tick(Ok(given)) => Given::Tick(given),
-            CallAnswer::Plain(Err(why))
-            | CallAnswer::Frame(Err(why))
-            | CallAnswer::Tick(Err(why)) => { Given::Refused(why) }
+            CallAnswer::Tick(given) => Given::Tick(given),
+            CallAnswer::Plain(Err(why)) | CallAnswer::Frame(Err(why)) => Given::Refused(why),
         }
     }
 }
@@ -48,7 +46,7 @@ impl Display for Given {
             Given::Tick(TickAnswer::Burned(offset, byte)) => {
                 write!(f, "=burned={offset}={byte:04x}")
             }
-            Given::Refused(why) => {
+            Given::Refused(why) | Given::Tick(TickAnswer::Refused(why)) => {
                 let number = u8::from(why);
                 write!(f, "={number}")
             }

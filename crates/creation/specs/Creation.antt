@@ -63,6 +63,7 @@ abbrev pub granted : Answer (Unit {0}) → Module → Answer Module
 granted (Ok u) m = Ok m
 granted (Err why) m = Err why
 
+-- a fresh module, or why there is none
 abbrev pub checked : (port : ℕ) (image thresholds : List ℕ) → Answer Module
 checked port image thresholds = granted (judged port image thresholds) (fresh port image thresholds)
 

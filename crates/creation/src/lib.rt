@@ -21,13 +21,13 @@ fn fresh(port: u8, store: [u8; 256], thresholds: [u8; 40]) -> Module
 {
     let differing = Differing::of(&store);
     Module {
-        store: store,
+        store,
         job: Job::IDLE,
         copy: [0; 256],
-        differing: differing,
+        differing,
         powered: false,
-        port: port,
-        thresholds: thresholds,
+        port,
+        thresholds,
         command: 0,
         bus: Bus::ZERO,
         alarms: Alarms::NONE,
@@ -68,7 +68,7 @@ pub fn make(port: u8, image: &[u8], thresholds: &[u8]) -> Outcome<Answer<()>>
 {
     match checked(port, image, thresholds) {
         Ok(next) => Outcome {
-            next: next,
+            next,
             answer: Ok(()),
         },
         Err(why) => Outcome {

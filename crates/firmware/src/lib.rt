@@ -9,7 +9,7 @@ use answers::{Answer, FrameAnswer, TickAnswer};
 use xenpak::Module;
 
 // A tick of a lent record.
-pub fn tick(m: &mut Module) -> Answer<TickAnswer>
+pub fn tick(m: &mut Module) -> TickAnswer
     ensures { (result ≡ (tick m.old).answer) × (m.new ≡ (tick m.old).next) }
 {
     let r = (*m).tick();

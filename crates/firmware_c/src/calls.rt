@@ -1,4 +1,4 @@
-// The calls for C by value: each takes a record and hands back the one after it.
+// The calls for C by value: those that change the record take one and hand back the one after it.
 ghost use Rattle.std.specs.Prelude.{◌≡◌};
 ghost use Rattle.dom.specs.Readout.{tenths_of};
 ghost use Rattle.store.specs.declared.Cut.TheVariants.{Clean, Torn};

@@ -12,7 +12,7 @@ ghost use Rattle.firmware_c.specs.Words.{answer_word};
 mod answer_words;
 pub mod calls;
 
-use answer_words::word_of;
+use answer_words::{tick_word, word_of};
 use firmware::{frame, tick};
 use reads::unsaved;
 use xenpak::Module;
@@ -22,7 +22,7 @@ use xenpak::Module;
 pub extern "C" fn xenpak_tick(m: &mut Module) -> u32
     ensures { (result ≡ answer_word (said_tick (tick m.old).answer)) × (m.new ≡ (tick m.old).next) }
 {
-    word_of(tick(m))
+    tick_word(tick(m))
 }
 
 // A frame to a lent record, and its answer's word. It stands between `frame` and the exported function for speed: without it the

@@ -25,6 +25,7 @@ alarm = columns high_alarm low_alarm
 abbrev pub warning : Side → ℕ
 warning = columns high_warning low_warning
 
+-- the columns of a level
 abbrev pub columns_of : Level → Side → ℕ
 columns_of Alarm = alarm
 columns_of Warning = warning

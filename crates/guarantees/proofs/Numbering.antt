@@ -50,11 +50,11 @@ numbered = record { plain = plains; frames = frames; ticks = ticks; settling = c
     frames (Ok (frame.Data value)) = refl
     frames (Err why) = ap Err (refusal-told why)
 
-    ticks : (a : Answer TickAnswer) → tick_told (said_tick a) ≡ a
-    ticks (Ok tick.Nothing) = refl
-    ticks (Ok (tick.Loaded offset byte)) = refl
-    ticks (Ok (tick.Burned offset byte)) = refl
-    ticks (Err why) = ap Err (refusal-told why)
+    ticks : (a : TickAnswer) → tick_told (said_tick a) ≡ a
+    ticks tick.Nothing = refl
+    ticks (tick.Loaded offset byte) = refl
+    ticks (tick.Burned offset byte) = refl
+    ticks (tick.Refused why) = ap tick.Refused (refusal-told why)
 
     counts : (a : Answer ℕ) → count_told (said_settle a) ≡ a
     counts (Ok count) = refl

@@ -5,7 +5,6 @@ use native.Mathlib.Omega.{arith}
 use mathlib.Core.List.{List}
 use mathlib.Core.Path.{◌≡◌, refl, ap₂}
 use lib.ListN.{set}
-use Rattle.std.specs.Prelude.{Ok}
 use Rattle.work.specs.Work.{work_of}
 use Rattle.work.specs.declared.Work.{Work}
 use Rattle.work.specs.declared.Work.TheVariants as work
@@ -16,13 +15,13 @@ use Rattle.xenpak.specs.declared.Module.{Module}
 use Rattle.guarantees.specs.Guarantees.{TickTells}
 
 module _ (s c : List ℕ) (o b : ℕ) where
-  loads : (w : Work) → tick_answer s c w ≡ Ok (Loaded o b) → (loaded_copy s c w ≡ set c o b) × (burned_store s c w ≡ s)
+  loads : (w : Work) → tick_answer s c w ≡ Loaded o b → (loaded_copy s c w ≡ set c o b) × (burned_store s c w ≡ s)
   loads work.Refused e = absurd (let z : ◌≡◌ {A = ℕ} 0 1 = cc in omega arith)
   loads work.Nothing e = absurd (let z : ◌≡◌ {A = ℕ} 0 1 = cc in omega arith)
   loads (work.Load due) e = (ap₂ (set c) (cc) (cc), refl)
   loads (work.Burn due) e = absurd (let z : ◌≡◌ {A = ℕ} 0 1 = cc in omega arith)
 
-  burns : (w : Work) → tick_answer s c w ≡ Ok (Burned o b) → (burned_store s c w ≡ set s o b) × (loaded_copy s c w ≡ c)
+  burns : (w : Work) → tick_answer s c w ≡ Burned o b → (burned_store s c w ≡ set s o b) × (loaded_copy s c w ≡ c)
   burns work.Refused e = absurd (let z : ◌≡◌ {A = ℕ} 0 1 = cc in omega arith)
   burns work.Nothing e = absurd (let z : ◌≡◌ {A = ℕ} 0 1 = cc in omega arith)
   burns (work.Load due) e = absurd (let z : ◌≡◌ {A = ℕ} 0 1 = cc in omega arith)

@@ -39,10 +39,10 @@ leaves (Frame (Ok frame-answer.Written)) = false
 leaves (Frame (Ok frame-answer.Dropped)) = true
 leaves (Frame (Ok (frame-answer.Data value))) = false
 leaves (Frame (Err why)) = true
-leaves (Tick (Ok tick-answer.Nothing)) = false
-leaves (Tick (Ok (tick-answer.Loaded offset byte))) = false
-leaves (Tick (Ok (tick-answer.Burned offset byte))) = false
-leaves (Tick (Err why)) = true
+leaves (Tick tick-answer.Nothing) = false
+leaves (Tick (tick-answer.Loaded offset byte)) = false
+leaves (Tick (tick-answer.Burned offset byte)) = false
+leaves (Tick (tick-answer.Refused why)) = true
 
 not_so : {A : Type 0} → false ≡ true → A
 not_so e = absurd (let z : ◌≡◌ {A = ℕ} 0 1 = cc in omega arith)
@@ -87,10 +87,10 @@ refused_leaves (Frame (Ok frame-answer.Written)) f = absurd (f refl)
 refused_leaves (Frame (Ok frame-answer.Dropped)) f = refl
 refused_leaves (Frame (Ok (frame-answer.Data value))) f = absurd (f refl)
 refused_leaves (Frame (Err why)) f = refl
-refused_leaves (Tick (Ok tick-answer.Nothing)) f = absurd (f refl)
-refused_leaves (Tick (Ok (tick-answer.Loaded offset byte))) f = absurd (f refl)
-refused_leaves (Tick (Ok (tick-answer.Burned offset byte))) f = absurd (f refl)
-refused_leaves (Tick (Err why)) f = refl
+refused_leaves (Tick tick-answer.Nothing) f = absurd (f refl)
+refused_leaves (Tick (tick-answer.Loaded offset byte)) f = absurd (f refl)
+refused_leaves (Tick (tick-answer.Burned offset byte)) f = absurd (f refl)
+refused_leaves (Tick (tick-answer.Refused why)) f = refl
 
 pub refused_unchanged : RefusedUnchanged
 refused_unchanged m c f = unchanged m c (refused_leaves (step m c).answer f)

@@ -1,6 +1,6 @@
 -- What is guaranteed: demands 2 and 3 as statements about whole lists of calls, and what goes beyond them.
 -- Assumes nothing.
-use Rattle.std.specs.Prelude.{ℕ, ◌-◌, ◌<◌, false, cond, List, [], ◌∷◌, ◌++◌, map, ◌≢◌, ◌≡◌, ℤ, length, get_or, set, replicate, Ok, Err}
+use Rattle.std.specs.Prelude.{ℕ, ◌-◌, ◌<◌, false, cond, List, [], ◌∷◌, ◌++◌, ◌≢◌, ◌≡◌, ℤ, length, get_or, set, replicate, Ok, Err}
 use Rattle.store.specs.declared.Cut.TheVariants.{Clean}
 use Rattle.dom.specs.Readout.{tenths_of}
 use Rattle.answers.specs.Answers.{Answer, Said, said_plain, said_frame, said_tick, said_settle, said_unsaved}
@@ -10,6 +10,7 @@ use Rattle.answers.specs.declared.FrameAnswer.{FrameAnswer}
 use Rattle.answers.specs.declared.FrameAnswer.TheVariants.{Silent, Set, Written, Dropped, Data}
 use Rattle.answers.specs.declared.TickAnswer.{TickAnswer}
 use Rattle.answers.specs.declared.TickAnswer.TheVariants.{Nothing, Loaded, Burned}
+use Rattle.answers.specs.declared.TickAnswer.TheVariants as to_tick
 use Rattle.xenpak.specs.Calls.{power_on, reset_pin, tick}
 use Rattle.xenpak.specs.Frame.{frame}
 use Rattle.xenpak.specs.declared.Module.{Module}
@@ -127,8 +128,8 @@ DroppedUnchanged = (m : Module) (c : Call) → (step m c).answer ≡ answer.Fram
 
 -- a tick did what it answers, whatever the record holds: loaded, the copy has that byte at that offset; burned, the store
 pub record TickTells (m : Module) : Type 0 where
-  pub loaded : (o b : ℕ) → (tick m).answer ≡ Ok (Loaded o b) → ((tick m).next.copy ≡ set m.copy o b) × ((tick m).next.store ≡ m.store)
-  pub burned : (o b : ℕ) → (tick m).answer ≡ Ok (Burned o b) → ((tick m).next.store ≡ set m.store o b) × ((tick m).next.copy ≡ m.copy)
+  pub loaded : (o b : ℕ) → (tick m).answer ≡ Loaded o b → ((tick m).next.copy ≡ set m.copy o b) × ((tick m).next.store ≡ m.store)
+  pub burned : (o b : ℕ) → (tick m).answer ≡ Burned o b → ((tick m).next.store ≡ set m.store o b) × ((tick m).next.copy ≡ m.copy)
 
 -- the copy begins as 256 zeros: after power-on, the reset pin and a write taken at 0000 there is a byte at each offset, and
 -- it is 0, whatever the default for where there is none
@@ -167,28 +168,28 @@ abbrev pub refusals : List Refusal
 refusals = Port ∷ ImageLength ∷ ThresholdsLength ∷ Checksum ∷ ThresholdOrder ∷ Temperature ∷ PoweredOff ∷ PoweredOn ∷ []
 
 -- a refusal, or one of the answers to a call of a kind, from 1, with the values said
-abbrev pub told : {A : Type 0} → ((value : ℕ → ℕ) → List A) → Said → Answer A
-told given s =
-    get_or (Err (get_or refusals (s.refusal - 1) Port) ∷ map Ok (given (λ i. get_or s.values i 0))) s.which (Err Port)
+abbrev pub told : {A : Type 0} → (Refusal → A) → ((value : ℕ → ℕ) → List A) → Said → A
+told refused answers s =
+    get_or (refused (get_or refusals (s.refusal - 1) Port) ∷ answers (λ i. get_or s.values i 0)) s.which (refused Port)
 
 abbrev pub plain_told : Said → Answer (Unit {0})
-plain_told = told (λ value. tt ∷ [])
+plain_told = told Err (λ value. Ok tt ∷ [])
 
 abbrev pub frame_told : Said → Answer FrameAnswer
-frame_told = told (λ value. Silent ∷ Set ∷ Written ∷ Dropped ∷ Data (value 0) ∷ [])
+frame_told = told Err (λ value. Ok Silent ∷ Ok Set ∷ Ok Written ∷ Ok Dropped ∷ Ok (Data (value 0)) ∷ [])
 
-abbrev pub tick_told : Said → Answer TickAnswer
-tick_told = told (λ value. Nothing ∷ Loaded (value 0) (value 1) ∷ Burned (value 0) (value 1) ∷ [])
+abbrev pub tick_told : Said → TickAnswer
+tick_told = told to_tick.Refused (λ value. Nothing ∷ Loaded (value 0) (value 1) ∷ Burned (value 0) (value 1) ∷ [])
 
 -- the count
 abbrev pub count_told : Said → Answer ℕ
-count_told = told (λ value. value 0 ∷ [])
+count_told = told Err (λ value. Ok (value 0) ∷ [])
 
 -- so no two answers of a kind are said alike
 pub record Numbered : Type 0 where
   pub plain : (a : Answer (Unit {0})) → plain_told (said_plain a) ≡ a
   pub frames : (a : Answer FrameAnswer) → frame_told (said_frame a) ≡ a
-  pub ticks : (a : Answer TickAnswer) → tick_told (said_tick a) ≡ a
+  pub ticks : (a : TickAnswer) → tick_told (said_tick a) ≡ a
   pub settling : (a : Answer ℕ) → count_told (said_settle a) ≡ a
   pub unsaved : (a : Answer ℕ) → count_told (said_unsaved a) ≡ a
 

@@ -49,10 +49,10 @@ said_small (call-answer.Frame (Ok frame.Written)) = omega arith
 said_small (call-answer.Frame (Ok frame.Dropped)) = omega arith
 said_small (call-answer.Frame (Ok (frame.Data value))) = omega arith
 said_small (call-answer.Frame (Err why)) = number_small why
-said_small (call-answer.Tick (Ok tick.Nothing)) = omega arith
-said_small (call-answer.Tick (Ok (tick.Loaded offset byte))) = omega arith
-said_small (call-answer.Tick (Ok (tick.Burned offset byte))) = omega arith
-said_small (call-answer.Tick (Err why)) = number_small why
+said_small (call-answer.Tick tick.Nothing) = omega arith
+said_small (call-answer.Tick (tick.Loaded offset byte)) = omega arith
+said_small (call-answer.Tick (tick.Burned offset byte)) = omega arith
+said_small (call-answer.Tick (tick.Refused why)) = number_small why
 
 kind_small : (c : Call) → kind_of c < 2 ^ 8
 kind_small PowerOn = omega arith

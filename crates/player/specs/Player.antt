@@ -53,6 +53,7 @@ step_of last p kind size (Ok b) = played p kind b.call b.next
 step_of last p kind size (Err UnknownKind) = ended p kind 9 size
 step_of last p kind size (Err CutShort) = cond last (ended p kind 10 size) (still p)
 
+-- nothing where no byte is left
 abbrev pub step_by : (last : Bool) → Player → (size : ℕ) → Option Item → Step
 step_by last p size None = still p
 step_by last p size (Some i) = step_of last p i.kind size i.body

@@ -2,7 +2,7 @@
 ghost use Rattle.std.specs.Prelude.{◌≡◌};
 ghost use Rattle.calls.specs.Calls.{said};
 
-use answers::number;
+use answers::{TickAnswer, number};
 use calls::CallAnswer;
 
 pub(crate) fn refusal_of(answer: CallAnswer) -> u8
@@ -11,6 +11,7 @@ pub(crate) fn refusal_of(answer: CallAnswer) -> u8
     match answer {
         CallAnswer::Plain(plain) => number(plain),
         CallAnswer::Frame(framed) => number(framed),
-        CallAnswer::Tick(ticked) => number(ticked),
+        CallAnswer::Tick(TickAnswer::Refused(why)) => u8::from(why),
+        CallAnswer::Tick(_) => 0,
     }
 }

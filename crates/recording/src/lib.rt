@@ -11,7 +11,7 @@ use store::Cut;
 use words::bit;
 
 // Why a recording's own record is refused, before the module is asked.
-#[derive(Clone, Copy, PartialEq, Eq, Debug, Drop)]
+#[derive(Clone, Copy)]
 pub enum Flaw {
     UnknownKind,
     CutShort,

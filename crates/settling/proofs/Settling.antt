@@ -17,7 +17,6 @@ use Rattle.jobs.specs.declared.Job.{Job}
 use Rattle.differing.specs.declared.Differing.{Differing}
 use Rattle.xenpak.specs.Calls.{with_bytes, tick}
 use Rattle.settling.specs.Settling.{ticks, due}
-use Rattle.answers.specs.Answers.{Answer}
 use Rattle.answers.specs.declared.TickAnswer.{TickAnswer}
 use Rattle.xenpak.specs.declared.Module.{Module}
 
@@ -52,7 +51,7 @@ unfolding ticks
 start budget m on = record { within = omega arith; after = refl; powered = on; left = omega arith }
 
 -- a tick, made on the parts
-pub ticked : (m : Module) (j : Job) (d : Differing) {j' : Job} {d' : Differing} {s s' c c' : List ℕ} {w : Work} {a : Answer TickAnswer} → m.powered ≡ true
+pub ticked : (m : Module) (j : Job) (d : Differing) {j' : Job} {d' : Differing} {s s' c c' : List ℕ} {w : Work} {a : TickAnswer} → m.powered ≡ true
     → w ≡ work_of true j → j' ≡ after_work j w → d' ≡ differing_ticked d s c w → Moved s c w a s' c' → with_bytes s' c' d' j' m ≡ (tick (with_bytes s c d j m)).next
 unfolding tick
 ticked m j d on p q r moved = rw (q, r, moved.store, moved.copy, p, on)

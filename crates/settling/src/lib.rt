@@ -24,7 +24,7 @@ fn settled(mut m: Module, budget: u32) -> Outcome<Answer<u32>>
         let work = work_of(job, true);
         job = after_work(job, work);
         differing = differing.after_tick(&store, &copy, work);
-        let _ = move_byte(&mut store, &mut copy, work);
+        move_byte(&mut store, &mut copy, work);
         done += 1;
     }
     m.job = job;

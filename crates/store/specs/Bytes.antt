@@ -1,11 +1,10 @@
 -- Store and copy: what a tick, a cut, a frame and a start do to them. Document 01, "Load, burn, cut".
 -- Assumes nothing.
-use Rattle.std.specs.Prelude.{ℕ, List, ◌≡◌, get_or, set, replicate, Ok, Err}
+use Rattle.std.specs.Prelude.{ℕ, List, ◌≡◌, get_or, set, replicate}
 use Rattle.action.specs.declared.Action.{Action}
 use Rattle.action.specs.declared.Action.TheVariants as action
 use Rattle.work.specs.declared.Work.{Work}
 use Rattle.work.specs.declared.Work.TheVariants.{Refused, Nothing, Load, Burn}
-use Rattle.answers.specs.Answers.{Answer}
 use Rattle.answers.specs.declared.Refusal.TheVariants.{PoweredOff}
 use Rattle.answers.specs.declared.TickAnswer.{TickAnswer}
 use Rattle.answers.specs.declared.TickAnswer.TheVariants as tick
@@ -13,11 +12,11 @@ use Rattle.store.specs.declared.Cut.{Cut}
 use Rattle.store.specs.declared.Cut.TheVariants.{Clean, Torn}
 
 -- what a tick answers: the offset and the byte that it moves
-abbrev pub tick_answer : List ℕ → List ℕ → Work → Answer TickAnswer
-tick_answer store copy Refused = Err PoweredOff
-tick_answer store copy Nothing = Ok tick.Nothing
-tick_answer store copy (Load due) = Ok (tick.Loaded due (get_or store due 0))
-tick_answer store copy (Burn due) = Ok (tick.Burned due (get_or copy due 0))
+abbrev pub tick_answer : List ℕ → List ℕ → Work → TickAnswer
+tick_answer store copy Refused = tick.Refused PoweredOff
+tick_answer store copy Nothing = tick.Nothing
+tick_answer store copy (Load due) = tick.Loaded due (get_or store due 0)
+tick_answer store copy (Burn due) = tick.Burned due (get_or copy due 0)
 
 -- a load puts store into copy
 abbrev pub loaded_copy : List ℕ → List ℕ → Work → List ℕ
@@ -34,7 +33,7 @@ burned_store store copy (Load due) = store
 burned_store store copy (Burn due) = set store due (get_or copy due 0)
 
 -- a tick's answer, store and copy
-pub record Moved (s c : List ℕ) (work : Work) (a : Answer TickAnswer) (s' c' : List ℕ) : Type 0 where
+pub record Moved (s c : List ℕ) (work : Work) (a : TickAnswer) (s' c' : List ℕ) : Type 0 where
   pub answer : a ≡ tick_answer s c work
   pub store : s' ≡ burned_store s c work
   pub copy : c' ≡ loaded_copy s c work

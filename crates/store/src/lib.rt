@@ -6,7 +6,7 @@ ghost use Rattle.std.specs.Prelude.{◌≡◌, get_or};
 ghost use Rattle.store.specs.Bytes.{Moved, torn_store, zeros, written_copy};
 
 use action::Action;
-use answers::{Answer, Refusal, TickAnswer};
+use answers::{Refusal, TickAnswer};
 use work::Work;
 
 // A power cut: clean, or torn with a byte (document 01: struck).
@@ -17,23 +17,23 @@ pub enum Cut {
 }
 
 // A tick's byte goes from store to copy, or from copy to store.
-pub fn move_byte(store: &mut [u8; 256], copy: &mut [u8; 256], work: Work) -> Answer<TickAnswer>
+pub fn move_byte(store: &mut [u8; 256], copy: &mut [u8; 256], work: Work) -> TickAnswer
     ensures { Moved store.old copy.old work result store.new copy.new }
 {
     match work {
-        Work::Refused => Err(Refusal::PoweredOff),
-        Work::Nothing => Ok(TickAnswer::Nothing),
+        Work::Refused => TickAnswer::Refused(Refusal::PoweredOff),
+        Work::Nothing => TickAnswer::Nothing,
         Work::Load(due) => {
             let at = due as usize;
             let byte = store[at];
             copy[at] = byte;
-            Ok(TickAnswer::Loaded(due, byte))
+            TickAnswer::Loaded(due, byte)
         }
         Work::Burn(due) => {
             let at = due as usize;
             let byte = copy[at];
             store[at] = byte;
-            Ok(TickAnswer::Burned(due, byte))
+            TickAnswer::Burned(due, byte)
         }
     }
 }

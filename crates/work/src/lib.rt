@@ -51,7 +51,9 @@ pub fn after_work(job: Job, work: Work) -> Job
     ensures { result ≡ after_work job work }
 {
     match work {
-        Work::Refused | Work::Nothing => job,
-        Work::Load(_) | Work::Burn(_) => advanced(job),
+        Work::Refused => job,
+        Work::Nothing => job,
+        Work::Load(_) => advanced(job),
+        Work::Burn(_) => advanced(job),
     }
 }

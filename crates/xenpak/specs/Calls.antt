@@ -101,7 +101,7 @@ with_bytes store copy differing job m =
       monitor = m.monitor;
     }
 
-abbrev pub tick_by : Module → Work → Outcome (Answer TickAnswer)
+abbrev pub tick_by : Module → Work → Outcome TickAnswer
 tick_by m w =
     record {
       next =
@@ -110,7 +110,7 @@ tick_by m w =
       answer = tick_answer m.store m.copy w;
     }
 
-unfoldable pub tick : Module → Outcome (Answer TickAnswer)
+unfoldable pub tick : Module → Outcome TickAnswer
 tick m = tick_by m (work_of m.powered m.job)
 
 -- ---- lines, sample

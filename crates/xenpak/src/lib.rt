@@ -50,14 +50,8 @@ impl Module {
         ensures { result ≡ taken answer self next }
     {
         match answer {
-            Ok(()) => Outcome {
-                next: next,
-                answer: answer,
-            },
-            Err(_) => Outcome {
-                next: self,
-                answer: answer,
-            },
+            Ok(()) => Outcome { next, answer },
+            Err(_) => Outcome { next: self, answer },
         }
     }
 
@@ -70,16 +64,16 @@ impl Module {
         let store = self.store;
         let thresholds = self.thresholds;
         Module {
-            store: store,
+            store,
             job: Job::FIRST_LOAD,
             copy: [0; 256],
             differing: self.differing.started(),
-            powered: powered,
+            powered,
             port: self.port,
-            thresholds: thresholds,
+            thresholds,
             command: FIRST_COMMAND,
             bus: Bus::ZERO,
-            alarms: alarms,
+            alarms,
             monitor: Monitor::NONE,
         }
     }
@@ -122,7 +116,7 @@ impl Module {
 
     // One byte of the job, if one is due.
     #[tactic(auto, unfolding(crate::specs::Calls::tick))]
-    pub fn tick(mut self) -> Outcome<Answer<TickAnswer>>
+    pub fn tick(mut self) -> Outcome<TickAnswer>
         ensures { result ≡ tick self }
     {
         let work = work_of(self.job, self.powered);
@@ -133,10 +127,7 @@ impl Module {
         let answer = move_byte(&mut store, &mut copy, work);
         self.store = store;
         self.copy = copy;
-        Outcome {
-            next: self,
-            answer: answer,
-        }
+        Outcome { next: self, answer }
     }
 
     // The lines report faults and link levels.
@@ -193,9 +184,6 @@ impl Module {
         let value = value_read(action, byte, job, self.command, self.alarms, self.monitor);
         let answer = to_frame(action, value);
         self = self.after(action);
-        Outcome {
-            next: self,
-            answer: answer,
-        }
+        Outcome { next: self, answer }
     }
 }
