@@ -110,7 +110,9 @@ impl Differing {
         ensures { result ≡ differing_cut self store.now copy.now work cut }
     {
         match work {
-            Work::Refused | Work::Nothing | Work::Load(_) => self,
+            Work::Refused => self,
+            Work::Nothing => self,
+            Work::Load(_) => self,
             Work::Burn(due) => match cut {
                 Cut::Clean => self,
                 Cut::Torn(byte) => self.stored(store, copy, due, byte),
