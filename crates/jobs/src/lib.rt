@@ -73,7 +73,7 @@ impl Job {
     pub fn word(self, command: u16) -> u16
         ensures { result ≡ word_of self command }
     {
-        command | 4 * u16::from(self.status())
+        command | 4 * (self.status() as u16)
     }
 
     // The word at 0000: 8000 is added while the first load runs.

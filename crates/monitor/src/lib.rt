@@ -30,7 +30,7 @@ fn byte_of(code: u16, low: bool, held: bool, byte: u8) -> u16
     ensures { result ≡ byte_of code low held byte }
 {
     if low {
-        if held { u16::from(byte) } else { code % 256 }
+        if held { byte as u16 } else { code % 256 }
     } else {
         code / 256
     }

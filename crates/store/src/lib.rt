@@ -24,13 +24,13 @@ pub fn move_byte(store: &mut [u8; 256], copy: &mut [u8; 256], work: Work) -> Tic
         Work::Refused => TickAnswer::Refused(Refusal::PoweredOff),
         Work::Nothing => TickAnswer::Nothing,
         Work::Load(due) => {
-            let at = usize::from(due);
+            let at = due as usize;
             let byte = store[at];
             copy[at] = byte;
             TickAnswer::Loaded(due, byte)
         }
         Work::Burn(due) => {
-            let at = usize::from(due);
+            let at = due as usize;
             let byte = copy[at];
             store[at] = byte;
             TickAnswer::Burned(due, byte)
@@ -46,7 +46,7 @@ pub fn tear(store: &mut [u8; 256], work: Work, cut: Cut)
         Work::Burn(due) => match cut {
             Cut::Clean => {}
             Cut::Torn(byte) => {
-                store[usize::from(due)] = byte;
+                store[due as usize] = byte;
             }
         },
         _ => {}
@@ -68,7 +68,7 @@ pub fn write_copy(copy: &mut [u8; 256], action: Action)
     match action {
         Action::Reset => zero(copy),
         Action::Customer(offset, byte) => {
-            copy[usize::from(offset)] = byte;
+            copy[offset as usize] = byte;
         }
         _ => {}
     }

@@ -48,14 +48,14 @@ fn register_value(
     match register {
         Register::PmaControl => job.pma_word(),
         Register::NvrControl => job.word(command),
-        Register::Copy(_) => u16::from(byte),
-        Register::Customer(_) => u16::from(byte),
+        Register::Copy(_) => byte as u16,
+        Register::Customer(_) => byte as u16,
         Register::Control(i) => {
             let controls = alarms.controls;
             controls.value(i)
         }
         Register::Status(i) => status_at(alarms, i),
-        Register::Threshold(_) => u16::from(byte),
+        Register::Threshold(_) => byte as u16,
         Register::Sample(quantity, low) => monitor.value(quantity, low),
         Register::Flags(i) => flags_at(alarms, i),
         Register::Unlisted => 0,
