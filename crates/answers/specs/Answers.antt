@@ -79,6 +79,16 @@ abbrev pub said_unsaved : Answer ℕ → Said
 said_unsaved = said_by (λ count. says 1 (count ∷ []))
 
 -- ---- which answer a call gets
+-- creation (document 01: making), by whether port, image length, thresholds length, checksum and thresholds' order are
+-- right: 1 to 5, the lowest number first
+abbrev pub creation_answer : (port image thresholds checksum ordered : Bool) → Answer (Unit {0})
+creation_answer port image thresholds checksum ordered =
+    cond (not port) (Err Port)
+    (cond (not image) (Err ImageLength)
+    (cond (not thresholds) (Err ThresholdsLength)
+    (cond (not checksum) (Err Checksum)
+    (cond (not ordered) (Err ThresholdOrder) (Ok tt)))))
+
 -- power-on: 8 while powered
 abbrev pub power_on_answer : (powered : Bool) → Answer (Unit {0})
 power_on_answer powered = cond powered (Err PoweredOn) (Ok tt)

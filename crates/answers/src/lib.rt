@@ -2,7 +2,7 @@
 #![tactic(auto)]
 
 ghost use Rattle.std.specs.Prelude.{◌≡◌};
-ghost use Rattle.answers.specs.Answers.{refusal_number, number_in, power_on_answer, call_answer, frame_answer, unsaved_answer};
+ghost use Rattle.answers.specs.Answers.{refusal_number, number_in, creation_answer, power_on_answer, call_answer, frame_answer, unsaved_answer};
 
 use action::Action;
 
@@ -72,6 +72,35 @@ pub fn number<A: Copy>(answer: Answer<A>) -> u8
 }
 
 // ---- which answer a call gets
+
+// Of creation (document 01: making), by whether port, lengths of image and thresholds, checksum and order of the thresholds are
+// right: refusals 1 to 5, the lowest first.
+pub fn to_creation(
+    port: bool,
+    image: bool,
+    thresholds: bool,
+    checksum: bool,
+    ordered: bool,
+) -> Answer<()>
+    ensures { result ≡ creation_answer port image thresholds checksum ordered }
+{
+    if !port {
+        return Err(Refusal::Port);
+    }
+    if !image {
+        return Err(Refusal::ImageLength);
+    }
+    if !thresholds {
+        return Err(Refusal::ThresholdsLength);
+    }
+    if !checksum {
+        return Err(Refusal::Checksum);
+    }
+    if !ordered {
+        return Err(Refusal::ThresholdOrder);
+    }
+    Ok(())
+}
 
 // Of power-on: 8 when powered.
 pub fn to_power_on(powered: bool) -> Answer<()>

@@ -147,8 +147,8 @@ fn look(m: Module, step: Step) -> Option<Given> {
         }),
         Word::Changed => Some(Given::Number(changed(m))),
         Word::Tenths => Some(Given::Tenths(tenths(signed_code((first % 0x1_0000) as u16)))),
-        Word::Near => Some(Given::Number(near())),
-        Word::Halves => Some(Given::Number(halves())),
+        Word::Near => Some(Given::Number(near() as usize)),
+        Word::Halves => Some(Given::Number(halves() as usize)),
         Word::Unknown => Some(Given::Unknown),
         _ => None,
     }

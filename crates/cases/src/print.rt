@@ -29,37 +29,66 @@ impl From<CallAnswer> for Given {
     }
 }
 
-// Data and stored bytes have four hexadecimal digits, a refusal its number, and all else decimal numbers.
-impl Display for Given {
+// A piece of it: data and stored bytes have four hexadecimal digits, all other numbers are decimal.
+#[derive(Clone, Copy)]
+enum Piece {
+    Text(&'static str),
+    Number(usize),
+    Word(u16),
+    Magnitude(u16),
+}
+
+impl Display for Piece {
     fn fmt<W: fmt::Write>(&self, f: &mut fmt::Formatter<W>) -> fmt::Result {
         match *self {
-            Given::Accepted => f.write_str("=ok"),
-            Given::Frame(FrameAnswer::Silent) => f.write_str("=silent"),
-            Given::Frame(FrameAnswer::Set) => f.write_str("=set"),
-            Given::Frame(FrameAnswer::Written) => f.write_str("=written"),
-            Given::Frame(FrameAnswer::Dropped) => f.write_str("=dropped"),
-            Given::Frame(FrameAnswer::Data(value)) => write!(f, "={value:04x}"),
-            Given::Tick(TickAnswer::Nothing) => f.write_str("=nothing"),
-            Given::Tick(TickAnswer::Loaded(offset, byte)) => {
-                write!(f, "=loaded={offset}={byte:04x}")
-            }
-            Given::Tick(TickAnswer::Burned(offset, byte)) => {
-                write!(f, "=burned={offset}={byte:04x}")
-            }
-            Given::Refused(why) | Given::Tick(TickAnswer::Refused(why)) => {
-                let number = u8::from(why);
-                write!(f, "={number}")
-            }
-            Given::Unsaved(n) => write!(f, "=bytes={n}"),
-            Given::Number(n) => write!(f, "={n}"),
-            Given::Tenths(n) => write!(f, "={n}"),
-            Given::Stored(byte) => write!(f, "={byte:04x}"),
-            Given::Unknown => f.write_str("=?"),
+            Piece::Text(text) => f.write_str(text),
+            Piece::Number(n) => write!(f, "={n}"),
+            Piece::Word(n) => write!(f, "={n:04x}"),
+            Piece::Magnitude(n) => write!(f, "{n}"),
         }
     }
 }
 
 // Where standard output fails, the play goes on.
+fn put(rt: &impl Print, piece: Piece) {
+    let _ = rt.print(piece);
+}
+
+// A tick's offset and byte.
+fn moved(rt: &impl Print, name: &'static str, offset: u8, byte: u8) {
+    put(rt, Piece::Text(name));
+    put(rt, Piece::Number(usize::from(offset)));
+    put(rt, Piece::Word(u16::from(byte)));
+}
+
+// Writes what a step gives, each piece by itself: where one cannot be written, the next still may be.
 pub fn show(rt: &impl Print, given: Given) {
-    let _ = rt.print(given);
+    match given {
+        Given::Accepted => put(rt, Piece::Text("=ok")),
+        Given::Frame(FrameAnswer::Silent) => put(rt, Piece::Text("=silent")),
+        Given::Frame(FrameAnswer::Set) => put(rt, Piece::Text("=set")),
+        Given::Frame(FrameAnswer::Written) => put(rt, Piece::Text("=written")),
+        Given::Frame(FrameAnswer::Dropped) => put(rt, Piece::Text("=dropped")),
+        Given::Frame(FrameAnswer::Data(value)) => put(rt, Piece::Word(value)),
+        Given::Tick(TickAnswer::Nothing) => put(rt, Piece::Text("=nothing")),
+        Given::Tick(TickAnswer::Loaded(offset, byte)) => moved(rt, "=loaded", offset, byte),
+        Given::Tick(TickAnswer::Burned(offset, byte)) => moved(rt, "=burned", offset, byte),
+        Given::Refused(why) | Given::Tick(TickAnswer::Refused(why)) => {
+            put(rt, Piece::Number(usize::from(u8::from(why))));
+        }
+        Given::Unsaved(n) => {
+            put(rt, Piece::Text("=bytes"));
+            put(rt, Piece::Number(usize::from(n)));
+        }
+        Given::Number(n) => put(rt, Piece::Number(n)),
+        Given::Tenths(n) => {
+            put(rt, Piece::Text("="));
+            if n < 0 {
+                put(rt, Piece::Text("-"));
+            }
+            put(rt, Piece::Magnitude(n.unsigned_abs()));
+        }
+        Given::Stored(byte) => put(rt, Piece::Word(u16::from(byte))),
+        Given::Unknown => put(rt, Piece::Text("=?")),
+    }
 }

@@ -6,16 +6,20 @@ fn distance(code: i16) -> u32 {
     (i32::from(code) * 10).abs_diff(i32::from(tenths(code)) * 256)
 }
 
+// One more where it is so. Counts of 32 bits, as wide as what is compared: with `count`, in 64 bits, the compiled loop takes one code
+// at a time.
+fn one_more(n: u32, so: bool) -> u32 {
+    n.wrapping_add(u32::from(so))
+}
+
 // How many of the 65,536 codes read out less than half a tenth away.
-pub fn near() -> usize {
-    (i16::MIN..=i16::MAX)
-        .filter(|code| distance(*code) < 128)
-        .count()
+pub fn near() -> u32 {
+    (i16::MIN..=i16::MAX).fold(0, |n, code| one_more(n, distance(code) < 128))
 }
 
 // How many of them just half a tenth away, to an even number of tenths.
-pub fn halves() -> usize {
-    (i16::MIN..=i16::MAX)
-        .filter(|code| distance(*code) == 128 && tenths(*code) % 2 == 0)
-        .count()
+pub fn halves() -> u32 {
+    (i16::MIN..=i16::MAX).fold(0, |n, code| {
+        one_more(n, (distance(code) == 128) & (tenths(code) % 2 == 0))
+    })
 }

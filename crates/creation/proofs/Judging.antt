@@ -5,12 +5,12 @@ use borrow.Author.Tests.{le-leb}
 use mathlib.Core.Path.{refl, ap}
 use Rattle.nvr.specs.Image.{checksum_right}
 use Rattle.thresholds.specs.Thresholds.{thresholds_of, ordered}
-use Rattle.answers.specs.Answers.{Answer}
+use Rattle.answers.specs.Answers.{Answer, creation_answer}
 use Rattle.answers.specs.declared.Refusal.{Refusal}
 use Rattle.xenpak.specs.Calls.{taken}
 use Rattle.xenpak.specs.declared.Module.{Module}
 use Rattle.xenpak.specs.declared.Outcome.{Outcome}
-use Rattle.creation.specs.Creation.{fresh, sized, creation_answer, granted, checked}
+use Rattle.creation.specs.Creation.{fresh, sized, granted, checked}
 
 -- bytes that were taken as an array have its length
 pub fits : (n : ℕ) (bytes : List ℕ) (why : Refusal) (a : List ℕ) → sized n bytes why ≡ Ok a → eqb (length bytes) n ≡ true

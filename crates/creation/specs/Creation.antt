@@ -1,6 +1,6 @@
 -- Making a module (document 01: making): refusals 1 to 5 in order, the fresh module and the blank one.
 -- Assumes nothing.
-use Rattle.std.specs.Prelude.{ℕ, Bool, false, cond, not, List, eqb, leb, length, Ok, Err}
+use Rattle.std.specs.Prelude.{ℕ, false, cond, List, eqb, leb, length, Ok, Err}
 use Rattle.nvr.specs.Image.{checksum_right}
 use Rattle.jobs.specs.Job.{no_job}
 use Rattle.store.specs.Bytes.{zeros}
@@ -9,9 +9,8 @@ use Rattle.monitor.specs.Monitor.{no_monitor}
 use Rattle.alarms.specs.Alarms.{no_alarms}
 use Rattle.differing.specs.Differing.{counts_of}
 use Rattle.bus.specs.Bus.{no_bus}
-use Rattle.answers.specs.Answers.{Answer}
+use Rattle.answers.specs.Answers.{Answer, creation_answer}
 use Rattle.answers.specs.declared.Refusal.{Refusal}
-use Rattle.answers.specs.declared.Refusal.TheVariants.{Port, ImageLength, ThresholdsLength, Checksum, ThresholdOrder}
 use Rattle.xenpak.specs.Calls.{taken}
 use Rattle.xenpak.specs.declared.Module.{Module}
 use Rattle.xenpak.specs.declared.Outcome.{Outcome}
@@ -40,16 +39,6 @@ blank = fresh 0 (zeros 256) (zeros 40)
 -- bytes of the right length
 abbrev pub sized : ℕ → List ℕ → Refusal → Answer (List ℕ)
 sized n bytes why = cond (eqb (length bytes) n) (Ok bytes) (Err why)
-
--- by whether port, image length, thresholds length, checksum and thresholds' order are right: 1 to 5, the lowest number
--- first
-abbrev pub creation_answer : (port image thresholds checksum ordered : Bool) → Answer (Unit {0})
-creation_answer port image thresholds checksum ordered =
-    cond (not port) (Err Port)
-    (cond (not image) (Err ImageLength)
-    (cond (not thresholds) (Err ThresholdsLength)
-    (cond (not checksum) (Err Checksum)
-    (cond (not ordered) (Err ThresholdOrder) (Ok tt)))))
 
 -- 1: port above 31; 2: image not 256 bytes; 3: thresholds not 40 bytes; 4: basic checksum wrong; 5: a quantity's
 -- thresholds not in order

@@ -14,10 +14,10 @@ use Rattle.std.specs.Prelude.{Ok}
 use Rattle.nvr.specs.Image.{sum, checksum_right}
 use Rattle.thresholds.specs.Thresholds.{thresholds_of, ordered}
 use Rattle.store.specs.Bytes.{zeros}
-use Rattle.answers.specs.Answers.{Answer, said_plain}
+use Rattle.answers.specs.Answers.{Answer, said_plain, creation_answer}
 use Rattle.xenpak.specs.Calls.{kept}
 use Rattle.xenpak.specs.declared.Module.{Module}
-use Rattle.creation.specs.Creation.{creation_answer, fresh, blank, make}
+use Rattle.creation.specs.Creation.{fresh, blank, make}
 use Rattle.guarantees.specs.Behaviour.{says, refused, sum_to, make_refusal, make_said}
 
 -- ---- the code's five tests: what is wrong

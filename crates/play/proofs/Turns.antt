@@ -4,18 +4,19 @@ use Prim.Native.Nat.{ℕ, ◌+◌, ◌-◌, ◌/◌, ◌≤◌, min}
 use native.Mathlib.Omega.{arith}
 use mathlib.Core.Bool.{Bool, true, false, not, ◌&&◌}
 use mathlib.Core.List.{List}
-use mathlib.Core.Path.{◌≡◌, sym, ap, ◌∙◌, subst}
+use mathlib.Core.Path.{◌≡◌, refl, sym, ap, ◌∙◌, subst}
 use lib.Dec.{eqb}
 use lib.ListN.{length, take, drop, length-drop}
 use lib.Seq.{sets, length-take-le}
 use borrow.Author.Tests.{not-true}
-use Rattle.std.specs.Prelude.{Option, Some}
+use Rattle.std.specs.Prelude.{Option, Some, Result, Ok}
+use Rattle.io.specs.Counts.{IsPrefixLen}
 use Rattle.printout.specs.Line.{longest}
 use Rattle.player.specs.Player.{Transcript, playing, transcript, Plays, Kept}
 use Rattle.player.specs.declared.Player.{Player}
 use Rattle.player.specs.declared.Played as player
 use Rattle.player.proofs.Playing.{enough, left_over}
-use Rattle.play.specs.Turn.{Played, Turned, comes}
+use Rattle.play.specs.Turn.{Played, Turned, fails, comes, progress_of}
 use Rattle.play.specs.declared.Progress.{Progress}
 
 -- ---- a block
@@ -57,11 +58,18 @@ few_left {last} {p} {block} b m =
 -- bytes came, no more than there is room for
 pub came : {p : Player} {held : ℕ} {input output input' output' : List ℕ} {r : Progress} (n count : ℕ) → count ≡ min n (length input - held)
     → Played (eqb count 0) p (take (held + count) input) input output input' output' r
-    → Turned p held input output input' output' (Some n) (Some r)
+    → Turned p held input output input' output' (Some n) (Ok r)
 came {p} {held} {input} {output} {input'} {output'} {r} n count c b =
     comes n (subst (λ (k : ℕ). Played (eqb k 0) p (take (held + k) input) input output input' output' r) c b)
 
 -- what it leaves: few bytes where more can follow
-pub few : {p : Player} {held : ℕ} {input output input' output' : List ℕ} {got : Option ℕ} {r : Progress}
-    → Turned p held input output input' output' got (Some r) → r.more ≡ true → r.held ≤ 8
+pub few : {p : Player} {held : ℕ} {input output input' output' : List ℕ} {got : Option ℕ} {t : Result Progress Progress}
+    → Turned p held input output input' output' got t → (progress_of t).more ≡ true → (progress_of t).held ≤ 8
+few (fails i o) m = absurd (let z : ◌≡◌ {A = ℕ} 0 1 = cc in omega arith)
 few (comes n b) m = few_left b m
+
+-- and its lines within the output
+pub fit : {p : Player} {held : ℕ} {input output input' output' : List ℕ} {got : Option ℕ} {t : Result Progress Progress}
+    → Turned p held input output input' output' got t → IsPrefixLen (progress_of t).written output'
+fit (fails i o) = (omega arith, refl)
+fit (comes n b) = b.fits

@@ -1,6 +1,6 @@
 -- A turn of the program: what a read brought is played. Document 02, P1.
 -- Assumes nothing.
-use Rattle.std.specs.Prelude.{ℕ, ◌+◌, ◌-◌, min, Bool, not, ◌&&◌, List, ◌≡◌, eqb, Option, Some, None, length, take, drop}
+use Rattle.std.specs.Prelude.{ℕ, ◌+◌, ◌-◌, min, Bool, false, not, ◌&&◌, List, ◌≡◌, eqb, Option, Some, None, Result, Ok, Err, length, take, drop}
 use Rattle.std.proofs.lemmas.List.Edits.{sets}
 use Rattle.io.specs.Counts.{IsPrefixLen}
 use Rattle.player.specs.Player.{transcript, text_of}
@@ -18,10 +18,16 @@ pub record Played (last : Bool) (p : Player) (block input output input' output' 
   pub fits : IsPrefixLen r.written output'
   pub more : r.more ≡ (not last && not (transcript last p block).player.over)
 
--- by the answer of a read: nothing where it failed, and nothing is played; else so many bytes came behind those held, no more
--- than there is room for, and none says that no more follow
-pub data Turned (p : Player) (held : ℕ) (input output input' output' : List ℕ) : Option ℕ → Option Progress → Type 0 where
-  fails : input' ≡ input → output' ≡ output → Turned p held input output input' output' None None
+-- by the answer of a read: none, it failed, nothing is played, and no more can follow; else so many bytes came behind those
+-- held, no more than there is room for, and none says that no more follow
+pub data Turned (p : Player) (held : ℕ) (input output input' output' : List ℕ) : Option ℕ → Result Progress Progress → Type 0 where
+  fails : input' ≡ input → output' ≡ output
+      → Turned p held input output input' output' None (Err (record { player = p; written = 0; held = held; more = false }))
   comes : (n : ℕ) {r : Progress}
       → Played (eqb (min n (length input - held)) 0) p (take (held + min n (length input - held)) input) input output input' output' r
-      → Turned p held input output input' output' (Some n) (Some r)
+      → Turned p held input output input' output' (Some n) (Ok r)
+
+-- the progress of a turn, whether its read failed or not
+abbrev pub progress_of : Result Progress Progress → Progress
+progress_of (Ok r) = r
+progress_of (Err r) = r

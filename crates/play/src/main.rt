@@ -2,7 +2,7 @@
 #![tactic(auto)]
 
 ghost use Rattle.std.specs.Prelude.{◌≡◌, ◌≤◌, length, take};
-ghost use Rattle.play.specs.Turn.{Played, Turned};
+ghost use Rattle.play.specs.Turn.{Played, Turned, progress_of};
 
 use player::{Player, keep};
 use printout::LONGEST;
@@ -44,23 +44,37 @@ fn played(
     }
 }
 
-// By the answer of a read behind what is held, plays that and what came; nothing where the read failed. No bytes came: none
-// follow.
+// By the answer of a read behind what is held, plays that and what came; where the read failed nothing is played, and it is an
+// error, after which nothing follows. No bytes came: none follow.
 fn turn(
     player: Player,
     held: usize,
     got: Option<usize>,
     input: &mut [u8; BLOCK],
     output: &mut [u8; ROOM],
-) -> Option<Progress>
+) -> Result<Progress, Progress>
     requires { held ≤ length input.old }
     ensures { Turned player held input.old output.old input.new output.new got result }
 {
     let Some(came) = got else {
-        return None;
+        return Err(Progress {
+            player,
+            written: 0,
+            held,
+            more: false,
+        });
     };
     let count = came.min(BLOCK - held);
-    Some(played(player, input, held + count, count == 0, output))
+    Ok(played(player, input, held + count, count == 0, output))
+}
+
+// The progress of a turn, whether its read failed or not.
+fn progress_of(turned: Result<Progress, Progress>) -> Progress
+    ensures { result ≡ progress_of turned }
+{
+    match turned {
+        Ok(progress) | Err(progress) => progress,
+    }
 }
 
 // A read behind what is held, which stays: how many bytes came, if it did not fail.
@@ -84,10 +98,11 @@ fn main(rt: HostRuntime) {
     let mut held = 0;
     for _ in 0..u64::MAX {
         let got = read_behind(rt.stdin(), held, &mut input);
-        let Some(after) = turn(player, held, got, &mut input, &mut output) else {
+        let turned = turn(player, held, got, &mut input, &mut output);
+        if turned.is_err() {
             tell(rt.stderr(), b"play: standard input cannot be read\n");
-            return;
-        };
+        }
+        let after = progress_of(turned);
         let printed = rt.write_all(&output[..after.written]).is_ok();
         if !printed {
             tell(rt.stderr(), b"play: standard output cannot be written\n");

@@ -3,8 +3,8 @@
 use Rattle.std.specs.Prelude.{ℕ, ◌+◌, ◌*◌, List, [], ◌∷◌}
 use Rattle.answers.specs.Answers.{Answer, Said, said_plain, said_settle}
 use Rattle.xenpak.specs.declared.Outcome.{Outcome}
-use Rattle.firmware_c.specs.declared.calls.Called.{Called}
-use Rattle.firmware_c.specs.declared.calls.Settled.{Settled}
+use Rattle.firmware.specs.declared.calls.Called.{Called}
+use Rattle.firmware.specs.declared.calls.Settled.{Settled}
 
 -- an answer's values as one number: a value, or offset and byte
 abbrev pub value_of : List ℕ → ℕ

@@ -2,7 +2,7 @@
 // in 15:0.
 ghost use Rattle.std.specs.Prelude.{◌≡◌, ℕ, ◌+◌, ◌*◌, [], ◌∷◌};
 ghost use Rattle.answers.specs.Answers.{Said, says, refusal_number, said_by, said_tick, frame_given};
-ghost use Rattle.firmware_c.specs.Words.{answer_word};
+ghost use Rattle.firmware.specs.Words.{answer_word};
 
 use answers::{Answer, FrameAnswer, Refusal, TickAnswer};
 

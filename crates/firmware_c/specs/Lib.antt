@@ -1,2 +1,0 @@
--- What the contracts of `firmware_c` cite.
-pub mod Words
