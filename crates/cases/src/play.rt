@@ -1,6 +1,6 @@
 // How a sheet's steps are run.
 use crate::bench::{Parts, fresh};
-use crate::print::{Given, show};
+use crate::print::{Given, show, text};
 use crate::readout::{halves, near};
 use crate::sheet::{Step, Word, decimal};
 use alarms::Lines;
@@ -175,7 +175,7 @@ fn after(rt: &impl Print, m: Module, parts: Parts, step: Step) -> Module {
     }
 }
 
-// Plays a sheet, and writes it again with what its steps give. Where standard output fails, the play goes on.
+// Plays a sheet, and writes it again with what its steps give.
 pub fn play(rt: &impl Print, sheet: &[u8]) {
     let mut m = fresh(rt);
     let mut marked = m;
@@ -193,6 +193,6 @@ pub fn play(rt: &impl Print, sheet: &[u8]) {
             }
             step = step.done();
         }
-        let _ = rt.write_all(&[*byte]);
+        text(rt, &[*byte]);
     }
 }

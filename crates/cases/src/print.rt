@@ -29,66 +29,68 @@ impl From<CallAnswer> for Given {
     }
 }
 
-// A piece of it: data and stored bytes have four hexadecimal digits, all other numbers are decimal.
+// A number in it: data and stored bytes have four hexadecimal digits, all others are decimal.
 #[derive(Clone, Copy)]
-enum Piece {
-    Text(&'static str),
-    Number(usize),
+enum Number {
+    Decimal(usize),
     Word(u16),
     Magnitude(u16),
 }
 
-impl Display for Piece {
+impl Display for Number {
     fn fmt<W: fmt::Write>(&self, f: &mut fmt::Formatter<W>) -> fmt::Result {
         match *self {
-            Piece::Text(text) => f.write_str(text),
-            Piece::Number(n) => write!(f, "={n}"),
-            Piece::Word(n) => write!(f, "={n:04x}"),
-            Piece::Magnitude(n) => write!(f, "{n}"),
+            Number::Decimal(n) => write!(f, "={n}"),
+            Number::Word(n) => write!(f, "={n:04x}"),
+            Number::Magnitude(n) => write!(f, "{n}"),
         }
     }
 }
 
 // Where standard output fails, the play goes on.
-fn put(rt: &impl Print, piece: Piece) {
-    let _ = rt.print(piece);
+pub fn text(rt: &impl Print, s: &[u8]) {
+    let _ = rt.write_all(s);
+}
+
+fn put(rt: &impl Print, number: Number) {
+    let _ = rt.print(number);
 }
 
 // A tick's offset and byte.
-fn moved(rt: &impl Print, name: &'static str, offset: u8, byte: u8) {
-    put(rt, Piece::Text(name));
-    put(rt, Piece::Number(usize::from(offset)));
-    put(rt, Piece::Word(u16::from(byte)));
+fn moved(rt: &impl Print, name: &[u8], offset: u8, byte: u8) {
+    text(rt, name);
+    put(rt, Number::Decimal(usize::from(offset)));
+    put(rt, Number::Word(u16::from(byte)));
 }
 
 // Writes what a step gives, each piece by itself: where one cannot be written, the next still may be.
 pub fn show(rt: &impl Print, given: Given) {
     match given {
-        Given::Accepted => put(rt, Piece::Text("=ok")),
-        Given::Frame(FrameAnswer::Silent) => put(rt, Piece::Text("=silent")),
-        Given::Frame(FrameAnswer::Set) => put(rt, Piece::Text("=set")),
-        Given::Frame(FrameAnswer::Written) => put(rt, Piece::Text("=written")),
-        Given::Frame(FrameAnswer::Dropped) => put(rt, Piece::Text("=dropped")),
-        Given::Frame(FrameAnswer::Data(value)) => put(rt, Piece::Word(value)),
-        Given::Tick(TickAnswer::Nothing) => put(rt, Piece::Text("=nothing")),
-        Given::Tick(TickAnswer::Loaded(offset, byte)) => moved(rt, "=loaded", offset, byte),
-        Given::Tick(TickAnswer::Burned(offset, byte)) => moved(rt, "=burned", offset, byte),
+        Given::Accepted => text(rt, b"=ok"),
+        Given::Frame(FrameAnswer::Silent) => text(rt, b"=silent"),
+        Given::Frame(FrameAnswer::Set) => text(rt, b"=set"),
+        Given::Frame(FrameAnswer::Written) => text(rt, b"=written"),
+        Given::Frame(FrameAnswer::Dropped) => text(rt, b"=dropped"),
+        Given::Frame(FrameAnswer::Data(value)) => put(rt, Number::Word(value)),
+        Given::Tick(TickAnswer::Nothing) => text(rt, b"=nothing"),
+        Given::Tick(TickAnswer::Loaded(offset, byte)) => moved(rt, b"=loaded", offset, byte),
+        Given::Tick(TickAnswer::Burned(offset, byte)) => moved(rt, b"=burned", offset, byte),
         Given::Refused(why) | Given::Tick(TickAnswer::Refused(why)) => {
-            put(rt, Piece::Number(usize::from(u8::from(why))));
+            put(rt, Number::Decimal(usize::from(u8::from(why))));
         }
         Given::Unsaved(n) => {
-            put(rt, Piece::Text("=bytes"));
-            put(rt, Piece::Number(usize::from(n)));
+            text(rt, b"=bytes");
+            put(rt, Number::Decimal(usize::from(n)));
         }
-        Given::Number(n) => put(rt, Piece::Number(n)),
+        Given::Number(n) => put(rt, Number::Decimal(n)),
         Given::Tenths(n) => {
-            put(rt, Piece::Text("="));
+            text(rt, b"=");
             if n < 0 {
-                put(rt, Piece::Text("-"));
+                text(rt, b"-");
             }
-            put(rt, Piece::Magnitude(n.unsigned_abs()));
+            put(rt, Number::Magnitude(n.unsigned_abs()));
         }
-        Given::Stored(byte) => put(rt, Piece::Word(u16::from(byte))),
-        Given::Unknown => put(rt, Piece::Text("=?")),
+        Given::Stored(byte) => put(rt, Number::Word(u16::from(byte))),
+        Given::Unknown => text(rt, b"=?"),
     }
 }

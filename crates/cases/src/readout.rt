@@ -6,8 +6,8 @@ fn distance(code: i16) -> u32 {
     (i32::from(code) * 10).abs_diff(i32::from(tenths(code)) * 256)
 }
 
-// One more where it is so. Counts of 32 bits, as wide as what is compared: with `count`, in 64 bits, the compiled loop takes one code
-// at a time.
+// One more where it is so. Counts have 32 bits, as what is compared has: with `count`, in 64, the compiled loop takes one code at a
+// time.
 fn one_more(n: u32, so: bool) -> u32 {
     n.wrapping_add(u32::from(so))
 }
